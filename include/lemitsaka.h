@@ -1,6 +1,6 @@
 /* Lemitsaka, the list prover: its calls for C and C++.
  *
- *     rt staticlib lemitsaka
+ *     .ci/check lemitsaka_c
  *     cc -Iinclude yours.c target/staticlib/liblemitsaka.a
  *
  * examples/c/verdict.c is a whole program, and examples/c/insert.c one for three links. docs/manual has the bytes of a query, of a

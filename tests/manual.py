@@ -5,10 +5,10 @@ pages name.
     python3 tests/manual.py [PAGE ...]
 
 An example is a line `$ COMMAND` in a ```console block, with lines `> MORE` behind it where it goes on; the lines up to the next `$` are
-what it must print, standard error included, and it must end with status 0. `rt check NAME && ` or `.ci/check NAME && ` before a command is
-left out: the programs must be built before (`rt check`). A block that opens with ```c and a file's name is that file. The examples of a page run one
+what it must print, standard error included, and it must end with status 0. `.ci/check NAME && ` before a command is
+left out: the programs must be built before (`.ci/check`). A block that opens with ```c and a file's name is that file. The examples of a page run one
 after the other in a folder of their own, where target, include and examples lead to those of the repository. An example that links the
-static library is passed over, and counted so, where `rt staticlib lemitsaka` has not been run.
+static library is passed over, and counted so, where `.ci/check lemitsaka_c` has not been run.
 
 A claim is a table's row whose second cell is a file of crates/ in backticks: each name in backticks in its first cell must stand in that
 file.
@@ -79,7 +79,7 @@ def check_examples(page, text, count):
                     count['passed over'] += 1
                     continue
                 count['examples'] += 1
-                got = run(re.sub(r'^(rt |\.ci/)check \w+ && ', '', command), folder)
+                got = run(re.sub(r'^\.ci/check \w+ && ', '', command), folder)
                 if got != wanted:
                     count['differ'] += 1
                     print('%s:%d: $ %s\nwanted\n%sgot\n%s' % (page, number, command, wanted, got))

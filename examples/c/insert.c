@@ -1,7 +1,7 @@
 /* A routine puts a node n between p and the node q behind it, in a doubly linked list. Afterwards, may q->prev->next be another node
  * than q? And may it, if the routine forgets its last assignment?
  *
- *     rt staticlib lemitsaka
+ *     .ci/check lemitsaka_c
  *     cc -Iinclude examples/c/insert.c target/staticlib/liblemitsaka.a -o insert && ./insert
  */
 #include "lemitsaka.h"

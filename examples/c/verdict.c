@@ -1,7 +1,7 @@
 /* The palletiser's question. A removal routine leaves two pointers a and b at different nodes with the same successor. May the
  * list from a lead to b? And may it also lead back, from b to a?
  *
- *     rt staticlib lemitsaka
+ *     .ci/check lemitsaka_c
  *     cc -Iinclude examples/c/verdict.c target/staticlib/liblemitsaka.a -o verdict && ./verdict
  */
 #include "lemitsaka.h"

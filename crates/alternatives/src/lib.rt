@@ -1,4 +1,6 @@
 // The alternatives of a rule, left to right, by a link.
+#![tactic(auto)]
+
 ghost use Rattle.std.specs.Prelude.{◌≡◌, ◌≤◌, ◌<◌};
 ghost use Rattle.facts.specs.Path.{links_by};
 ghost use Rattle.rules.specs.Answers.{kind_of};

@@ -1,4 +1,6 @@
 // The answer of each call as one number for C (include/lemitsaka.h): below 65,536 the call's own answer, else a refusal.
+#![tactic(auto)]
+
 ghost use Rattle.std.specs.Prelude.{◌≡◌};
 ghost use Rattle.between_call.specs.Promise as between;
 ghost use Rattle.checker.specs.Promise as checker;

@@ -1,5 +1,7 @@
 // Whether a path has a heap, by search with backjumping: a refuted branch hands back a nogood, and where the path itself holds it, the other
 // branches need no look.
+#![tactic(auto)]
+
 ghost use Rattle.std.specs.Prelude.{◌≡◌, true, ℕ, ◌≤◌};
 ghost use Rattle.logic.specs.Query.{Query};
 ghost use Rattle.logic.specs.Decision.{HasHeap, NoHeap};

@@ -79,6 +79,7 @@ module _ (f : ℕ → ℕ) where
       (bool_cases (seen_before t))
     where
       split : (xs : List ℕ) → ((y : ℕ) → Memᴰ y xs → P y) → Memᴰ x (xs ++ (f (suc t) ∷ [])) → P x
+      split [] a (Memᴰ.tail k) = elim k [ ]
       split [] a (Memᴰ.head e) = subst P (sym e) (h (suc t) (omega arith) (omega arith))
       split (y ∷ ys) a (Memᴰ.head e) = a x (Memᴰ.head e)
       split (y ∷ ys) a (Memᴰ.tail k) = split ys (λ z i. a z (Memᴰ.tail i)) k

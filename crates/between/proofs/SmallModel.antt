@@ -45,6 +45,7 @@ or_one (x ∷ xs) = x ∷ xs
 
 or_one_keeps : (xs : List ℕ) (x : ℕ) → Memᴰ x xs → Memᴰ x (or_one xs)
 unfolding or_one
+or_one_keeps [] x m = elim m [ ]
 or_one_keeps (y ∷ ys) x m = m
 
 or_one-all : (P : ℕ → Type 0) → P 1 → (xs : List ℕ) → ((x : ℕ) → Memᴰ x xs → P x) → (x : ℕ) → Memᴰ x (or_one xs) → P x

@@ -1,1 +1,2 @@
 // Between literals, for queries of at most five terms.
+#![tactic(auto)]

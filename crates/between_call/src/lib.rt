@@ -1,4 +1,6 @@
 // The call for queries with between literals: the first small heap that satisfies, in a report, or none.
+#![tactic(auto)]
+
 ghost use Rattle.std.specs.Prelude.{◌≡◌, List, map, ℕ, ◌+◌, ◌*◌, ◌≤◌, length, get_or};
 ghost use Rattle.logic.specs.Facts.{terms};
 ghost use Rattle.rows.specs.Square.{square};
@@ -62,7 +64,7 @@ fn write_sections(
 // The report of the heap that was found.
 fn write_report(buffer: &mut [u8], base: &[u8], l: Layout, links: &[u8; 17], nodes: &[u8; 17])
     requires { (53 ≤ length buffer.old) × Reportable l base.now links.now nodes.now }
-    ensures { (between : List ℕ) → buffer.new ≡ padded (length buffer.old) (report_of (query_in base.now between) (record { links = links.entry.now; nodes = nodes.now })) }
+    ensures { (between : List ℕ) → buffer.new ≡ padded (length buffer.old) (report_of (query_in base.now between) (record { links = links.now; nodes = nodes.now })) }
 {
     let m = links[0] as usize;
     let marks = mark_fields(base, l.field_at, l.field_count, nodes);

@@ -1,4 +1,6 @@
 // Refusals 2 to 8 and 26 over six sections: the five of a query, and one of between literals.
+#![tactic(auto)]
+
 ghost use Rattle.std.specs.Prelude.{◌≡◌, [], ◌∷◌, ◌+◌, ◌*◌, ◌≤◌, ◌<◌, length, drop};
 ghost use Rattle.logic.specs.Query.{sign_role, term_role, role_fault, faulty, layout_of};
 ghost use Rattle.byte_tests.specs.Meets.{meets};

@@ -1,4 +1,6 @@
 // What betweenverdict prints, made in a lent buffer. The program reads, asks for the text and writes it.
+#![tactic(auto)]
+
 ghost use Rattle.std.specs.Prelude.{◌≤◌};
 ghost use Rattle.text.specs.Text.{Writes};
 ghost use Rattle.between_printing.specs.BetweenverdictText.{text_of, betweenverdict_text};

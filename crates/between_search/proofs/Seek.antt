@@ -15,16 +15,24 @@ use Rattle.between_search.specs.Promise.{Before, lower, same}
 
 -- The order
 
+before_self_of : {us ws : List ℕ} → Before us ws → us ≡ ws → ⊥
+before_self_of (lower l) e = grind arith
+before_self_of (same {xs = us} {ys = ws} b) e = let d : us ≡ ws = cc in before_self_of b d
+
 pub before_self : (xs : List ℕ) → Before xs xs → ⊥
-before_self (x ∷ xs) (lower l) = omega arith
-before_self (x ∷ xs) (same b) = before_self xs b
+before_self xs b = before_self_of b refl
 
 -- behind one front, the next numbers decide
+before_next_of : {us ws : List ℕ} → Before us ws → (xs : List ℕ) (v w : ℕ) (ys zs : List ℕ) → us ≡ xs ++ (v ∷ ys) → ws ≡ xs ++ (w ∷ zs) → v ≤ w
+before_next_of (lower l) [] v w ys zs p q = grind arith
+before_next_of (same b) [] v w ys zs p q = grind arith
+before_next_of (lower l) (x ∷ xs) v w ys zs p q = grind arith
+before_next_of (same {xs = us} {ys = ws} b) (x ∷ xs) v w ys zs p q =
+    let e : us ≡ xs ++ (v ∷ ys) = cc in
+    let d : ws ≡ xs ++ (w ∷ zs) = cc in before_next_of b xs v w ys zs e d
+
 pub before_next : (xs : List ℕ) (v w : ℕ) (ys zs : List ℕ) → Before (xs ++ (v ∷ ys)) (xs ++ (w ∷ zs)) → v ≤ w
-before_next [] v w ys zs (lower l) = omega arith
-before_next [] v w ys zs (same b) = omega arith
-before_next (x ∷ xs) v w ys zs (lower l) = absurd (omega arith)
-before_next (x ∷ xs) v w ys zs (same b) = before_next xs v w ys zs b
+before_next xs v w ys zs b = before_next_of b xs v w ys zs refl refl
 
 -- lists of one length, each with more behind it
 pub before-append : (xs ys xs' ys' : List ℕ) → length xs ≡ length xs' → Before (xs ++ ys) (xs' ++ ys') → Before xs xs' ⊎ ((xs ≡ xs') × Before ys ys')

@@ -1,1 +1,2 @@
 // The search for the first small heap: definitions and theory.
+#![tactic(auto)]

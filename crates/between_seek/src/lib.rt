@@ -1,4 +1,6 @@
 // The search for the first small heap that satisfies a query with between literals.
+#![tactic(auto)]
+
 ghost use Rattle.std.specs.Prelude.{◌≡◌, List, ℕ, ◌+◌, ◌-◌, ◌≤◌, set, take};
 ghost use Rattle.between_search.specs.Tests.{breaks};
 ghost use Rattle.between_search.specs.Search.{entry, lowest_node, highest_node, seek_nodes, seek_links, nodes_found, links_found, size_found, heap_found, most_nodes};
@@ -19,7 +21,7 @@ pub struct Searched {
 
 // What is looked for: heaps of m nodes for a query that is laid out so and has `count` between literals. Where they are `sorted`, a node that is
 // not named yet has the next number.
-#[derive(Drop)]
+#[derive(Clone, Copy)]
 struct Sought {
     l: Layout,
     count: usize,
@@ -28,7 +30,7 @@ struct Sought {
 }
 
 // What is looked for with these links, and their step counts.
-#[derive(Drop)]
+#[derive(Clone, Copy)]
 struct Linked {
     q: Sought,
     links: [u8; 17],

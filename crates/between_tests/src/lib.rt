@@ -1,4 +1,6 @@
 // The tests of one choice of a term's node: over the query's bytes in place, and tables that are made once for a list of links or a query.
+#![tactic(auto)]
+
 ghost use Rattle.std.specs.Prelude.{◌≡◌, true, false, not, cond, ◌&&◌, List, ℕ, ◌+◌, ◌*◌, ◌≤◌, ◌<◌, length, get_or, eqb};
 ghost use Rattle.logic.specs.Search.{from, any};
 ghost use Rattle.logic.specs.Query.{Literal, decode, names_nil, argument_of};

@@ -1,10 +1,10 @@
 // Reads a query of six sections from standard input, and prints the first small heap that meets it, if there is one.
-use libc::{STDIN_FILENO, STDOUT_FILENO};
+#![tactic(auto)]
 
-fn main() {
+fn main(rt: HostRuntime) {
     let mut input = [0u8; 1024];
     let mut text = [0u8; 163];
-    let read = io::read_full(STDIN_FILENO, &mut input);
+    let read = streams::read_full(&rt, &mut input);
     let made = between_printing::put_text(&mut text, &input[..read]);
-    io::write_all(STDOUT_FILENO, &text[..made]);
+    streams::write_all(&rt, &text[..made]);
 }

@@ -1,4 +1,6 @@
 // The branches of a rule: each of its alternatives, joined or added.
+#![tactic(auto)]
+
 ghost use Rattle.std.specs.Prelude.{◌≡◌, ◌≤◌, length};
 ghost use Rattle.logic.specs.Facts.{join};
 ghost use Rattle.logic.specs.Rules.{branch};

@@ -1,4 +1,6 @@
 // The tests of single bytes of a query: what the byte of a term, a sign, a number and a link are held to, and whether one meets refusal k.
+#![tactic(auto)]
+
 ghost use Rattle.std.specs.Prelude.{◌≡◌};
 ghost use Rattle.logic.specs.Query.{entry_role, sign_role};
 ghost use Rattle.logic.specs.ThreeLinks.{is_link, may_precede};

@@ -1,4 +1,6 @@
 // The limits of the calls: the rule steps of a walk, the bytes that a report needs, and the lines of a derivation.
+#![tactic(auto)]
+
 ghost use Rattle.std.specs.Prelude.{◌≡◌, ◌⊎◌, ◌+◌, ◌*◌, ◌≤◌, ◌<◌, ltb};
 ghost use Rattle.call_limits.specs.Forms.{form_of};
 

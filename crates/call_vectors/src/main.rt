@@ -1,6 +1,8 @@
 // Runs a row of cases, each of a call or of what a program prints, and prints a line for each: what the call answers, and every byte that was
 // lent; or the program's text. A case is a byte that names the call, three parts, each after its length in two bytes, high byte first (a call that
 // takes fewer has empty ones), and in two bytes how many bytes are lent. They are lent full of 255.
+#![tactic(auto)]
+
 ghost use Rattle.std.specs.Prelude.{◌≤◌, ◌<◌, length};
 
 use between_call::BetweenAnswer;
@@ -8,7 +10,6 @@ use checker::CheckAnswer;
 use dot::DotAnswer;
 use formula_call::FormulaAnswer;
 use joiner::{HandBack, JoinAnswer};
-use libc::STDOUT_FILENO;
 use precedence::OrderAnswer;
 use prover::Answer;
 use rewriter::Rewritten;
@@ -19,22 +20,22 @@ fn wide(x: u8) -> usize
     x as usize
 }
 
-fn print_word(word: &[u8]) {
-    io::write_all(STDOUT_FILENO, word);
+fn print_word(rt: &impl Print, word: &[u8]) {
+    streams::write_all(rt, word);
 }
 
-fn print_number(number: usize) {
-    io::print_decimal(STDOUT_FILENO, number as u64);
+fn print_number(rt: &impl Print, number: usize) {
+    streams::print_decimal(rt, number as u64);
 }
 
 // The bytes in hex.
-fn print_bytes(bytes: &[u8], count: usize) {
+fn print_bytes(rt: &impl Print, bytes: &[u8], count: usize) {
     let mut i: usize = 0;
     while i < count {
         if bytes.len() <= i {
             return;
         }
-        io::print_hex(STDOUT_FILENO, wide(bytes[i]) as u64, 2);
+        streams::print_hex(rt, bytes[i]);
         i += 1;
     }
 }
@@ -54,159 +55,174 @@ fn used(bytes: &[u8]) -> usize
 }
 
 // All bytes: in hex as far as the last one that is not zero, and how many zeros follow.
-fn print_lent(out: &[u8]) {
-    print_word(b" ");
+fn print_lent(rt: &impl Print, out: &[u8]) {
+    print_word(rt, b" ");
     let n = used(out);
-    print_bytes(out, n);
-    print_word(b"+");
-    print_number(out.len() - n);
+    print_bytes(rt, out, n);
+    print_word(rt, b"+");
+    print_number(rt, out.len() - n);
 }
 
-fn print_refusal(k: usize, place: usize) {
-    print_word(b"refused ");
-    print_number(k);
-    print_word(b" at ");
-    print_number(place);
+fn print_refusal(rt: &impl Print, k: usize, place: usize) {
+    print_word(rt, b"refused ");
+    print_number(rt, k);
+    print_word(rt, b" at ");
+    print_number(rt, place);
 }
 
 // A refusal that is about one of two queries.
-fn print_refusal_of(k: usize, place: usize, query: &[u8]) {
-    print_refusal(k, place);
-    print_word(query);
+fn print_refusal_of(rt: &impl Print, k: usize, place: usize, query: &[u8]) {
+    print_refusal(rt, k, place);
+    print_word(rt, query);
 }
 
 // What was written, and how long it is.
-fn print_written(word: &[u8], length: usize) {
-    print_word(word);
-    print_number(length);
+fn print_written(rt: &impl Print, word: &[u8], length: usize) {
+    print_word(rt, word);
+    print_number(rt, length);
 }
 
 // 01's calls, and R-11's
-fn print_answer(answer: Answer) {
+fn print_answer(rt: &impl Print, answer: Answer) {
     match answer {
-        Answer::Satisfiable => print_word(b"sat"),
-        Answer::Refuted => print_word(b"refuted"),
-        Answer::Refused(k, place) => print_refusal(k, place),
+        Answer::Satisfiable => print_word(rt, b"sat"),
+        Answer::Refuted => print_word(rt, b"refuted"),
+        Answer::Refused(k, place) => print_refusal(rt, k, place),
     }
 }
 
 // R-2
-fn run_dot(report: &[u8], out: &mut [u8]) {
+fn run_dot(rt: &impl Print, report: &[u8], out: &mut [u8]) {
     match dot::dot(report, out) {
-        DotAnswer::Written(length) => print_written(b"text ", length),
-        DotAnswer::Refused(k, place) => print_refusal(k, place),
+        DotAnswer::Written(length) => print_written(rt, b"text ", length),
+        DotAnswer::Refused(k, place) => print_refusal(rt, k, place),
     }
 }
 
 // R-6
-fn run_order(sheet: &[u8], out: &mut [u8]) {
+fn run_order(rt: &impl Print, sheet: &[u8], out: &mut [u8]) {
     match precedence::order_of(sheet, out) {
-        OrderAnswer::Order => print_word(b"order"),
-        OrderAnswer::Ring => print_word(b"none"),
-        OrderAnswer::Refused(k, place) => print_refusal(k, place),
+        OrderAnswer::Order => print_word(rt, b"order"),
+        OrderAnswer::Ring => print_word(rt, b"none"),
+        OrderAnswer::Refused(k, place) => print_refusal(rt, k, place),
     }
 }
 
 // R-7
-fn run_formula(order: &[u8], query: &[u8], formula: &[u8], out: &mut [u8]) {
+fn run_formula(rt: &impl Print, order: &[u8], query: &[u8], formula: &[u8], out: &mut [u8]) {
     match formula_call::formula(order, query, formula, out) {
-        FormulaAnswer::Conjunction(n) => print_written(b"sat ", n),
-        FormulaAnswer::Refuted => print_word(b"refuted"),
-        FormulaAnswer::Refused(k, place) => print_refusal(k, place),
+        FormulaAnswer::Conjunction(n) => print_written(rt, b"sat ", n),
+        FormulaAnswer::Refuted => print_word(rt, b"refuted"),
+        FormulaAnswer::Refused(k, place) => print_refusal(rt, k, place),
     }
 }
 
 // R-8
-fn print_check(answer: CheckAnswer) {
+fn print_check(rt: &impl Print, answer: CheckAnswer) {
     match answer {
-        CheckAnswer::Accepted => print_word(b"accepted"),
-        CheckAnswer::Wrong(line) => print_written(b"wrong ", line),
-        CheckAnswer::Refused(k, place) => print_refusal(k, place),
+        CheckAnswer::Accepted => print_word(rt, b"accepted"),
+        CheckAnswer::Wrong(line) => print_written(rt, b"wrong ", line),
+        CheckAnswer::Refused(k, place) => print_refusal(rt, k, place),
     }
 }
 
 // R-10
-fn run_between(query: &[u8], out: &mut [u8]) {
+fn run_between(rt: &impl Print, query: &[u8], out: &mut [u8]) {
     match between_call::between(query, out) {
-        BetweenAnswer::Heap => print_word(b"heap"),
-        BetweenAnswer::Nothing => print_word(b"none"),
-        BetweenAnswer::Refused(k, place) => print_refusal(k, place),
+        BetweenAnswer::Heap => print_word(rt, b"heap"),
+        BetweenAnswer::Nothing => print_word(rt, b"none"),
+        BetweenAnswer::Refused(k, place) => print_refusal(rt, k, place),
     }
 }
 
 // R-12
-fn run_join(first: &[u8], second: &[u8], pairs: &[u8], out: &mut [u8]) {
+fn run_join(rt: &impl Print, first: &[u8], second: &[u8], pairs: &[u8], out: &mut [u8]) {
     match joiner::join(first, second, pairs, out) {
-        JoinAnswer::Written(length) => print_written(b"query ", length),
-        JoinAnswer::FirstRefused(k, place) => print_refusal_of(k, place, b" of the first query"),
-        JoinAnswer::SecondRefused(k, place) => print_refusal_of(k, place, b" of the second query"),
-        JoinAnswer::Refused(k, place) => print_refusal(k, place),
+        JoinAnswer::Written(length) => print_written(rt, b"query ", length),
+        JoinAnswer::FirstRefused(k, place) => print_refusal_of(
+            rt,
+            k,
+            place,
+            b" of the first query",
+        ),
+        JoinAnswer::SecondRefused(k, place) => print_refusal_of(
+            rt,
+            k,
+            place,
+            b" of the second query",
+        ),
+        JoinAnswer::Refused(k, place) => print_refusal(rt, k, place),
     }
 }
 
 // From which query a literal is handed back, where it stands there, and how long it is.
-fn print_place(query: usize, at: usize, size: usize) {
-    print_word(b"part ");
-    print_number(query);
-    print_word(b" ");
-    print_number(at);
-    print_word(b" ");
-    print_number(size);
+fn print_place(rt: &impl Print, query: usize, at: usize, size: usize) {
+    print_word(rt, b"part ");
+    print_number(rt, query);
+    print_word(rt, b" ");
+    print_number(rt, at);
+    print_word(rt, b" ");
+    print_number(rt, size);
 }
 
 // "a call beside it gives number and place"
-fn print_hand_back(first: &[u8], second: &[u8], line: &[u8]) {
+fn print_hand_back(rt: &impl Print, first: &[u8], second: &[u8], line: &[u8]) {
     match joiner::find_named(first, second, line) {
-        HandBack::InFirst(at, size) => print_place(1, at, size),
-        HandBack::InSecond(at, size) => print_place(2, at, size),
-        HandBack::FirstRefused(k, place) => print_refusal_of(k, place, b" of the first query"),
-        HandBack::SecondRefused(k, place) => print_refusal_of(k, place, b" of the second query"),
-        HandBack::Refused(k, place) => print_refusal(k, place),
+        HandBack::InFirst(at, size) => print_place(rt, 1, at, size),
+        HandBack::InSecond(at, size) => print_place(rt, 2, at, size),
+        HandBack::FirstRefused(k, place) => print_refusal_of(rt, k, place, b" of the first query"),
+        HandBack::SecondRefused(k, place) => print_refusal_of(
+            rt,
+            k,
+            place,
+            b" of the second query",
+        ),
+        HandBack::Refused(k, place) => print_refusal(rt, k, place),
     }
 }
 
 // R-13, and R-11's rewriting with link 1
-fn print_rewritten(answer: Rewritten) {
+fn print_rewritten(rt: &impl Print, answer: Rewritten) {
     match answer {
-        Rewritten::Written(length) => print_written(b"query ", length),
-        Rewritten::Refused(k, place) => print_refusal(k, place),
+        Rewritten::Written(length) => print_written(rt, b"query ", length),
+        Rewritten::Refused(k, place) => print_refusal(rt, k, place),
     }
 }
 
 // A call with lent bytes: those of 01 and R-11 are named by a letter, another by its request's number.
-fn print_call(call: u8, a: &[u8], b: &[u8], c: &[u8], out: &mut [u8]) {
+fn print_call(rt: &impl Print, call: u8, a: &[u8], b: &[u8], c: &[u8], out: &mut [u8]) {
     match call {
-        b'v' => print_answer(prover::verdict(a, b, out)),
-        b'd' => print_answer(prover::derivation(a, b, out)),
-        b'V' => print_answer(prover::links_verdict(a, b, out)),
-        b'D' => print_answer(prover::links_derivation(a, b, out)),
-        2 => run_dot(a, out),
-        6 => run_order(a, out),
-        7 => run_formula(a, b, c, out),
-        10 => run_between(a, out),
-        11 => print_rewritten(link_rewriter::rewrite(a, out)),
-        12 => run_join(a, b, c, out),
-        _ => print_rewritten(rewriter::rewrite(a, out)),
+        b'v' => print_answer(rt, prover::verdict(a, b, out)),
+        b'd' => print_answer(rt, prover::derivation(a, b, out)),
+        b'V' => print_answer(rt, prover::links_verdict(a, b, out)),
+        b'D' => print_answer(rt, prover::links_derivation(a, b, out)),
+        2 => run_dot(rt, a, out),
+        6 => run_order(rt, a, out),
+        7 => run_formula(rt, a, b, c, out),
+        10 => run_between(rt, a, out),
+        11 => print_rewritten(rt, link_rewriter::rewrite(a, out)),
+        12 => run_join(rt, a, b, c, out),
+        _ => print_rewritten(rt, rewriter::rewrite(a, out)),
     }
 }
 
 // Its answer, and all that was lent.
-fn run_call(call: u8, a: &[u8], b: &[u8], c: &[u8], out: &mut [u8]) {
-    print_call(call, a, b, c, out);
-    print_lent(out);
-    print_word(b"\n");
+fn run_call(rt: &impl Print, call: u8, a: &[u8], b: &[u8], c: &[u8], out: &mut [u8]) {
+    print_call(rt, call, a, b, c, out);
+    print_lent(rt, out);
+    print_word(rt, b"\n");
 }
 
-fn run_check(answer: CheckAnswer) {
-    print_check(answer);
-    print_word(b"\n");
+fn run_check(rt: &impl Print, answer: CheckAnswer) {
+    print_check(rt, answer);
+    print_word(rt, b"\n");
 }
 
 // "hand back that literal's own bytes", none where it is refused
-fn run_hand_back<'a>(first: &'a [u8], second: &'a [u8], line: &[u8]) {
-    print_hand_back(first, second, line);
-    print_lent(joiner::hand_back(first, second, line));
-    print_word(b"\n");
+fn run_hand_back<'a>(rt: &impl Print, first: &'a [u8], second: &'a [u8], line: &[u8]) {
+    print_hand_back(rt, first, second, line);
+    print_lent(rt, joiner::hand_back(first, second, line));
+    print_word(rt, b"\n");
 }
 
 // What a program makes of its input, named by a letter: the length of its text.
@@ -223,41 +239,41 @@ fn program_text(program: u8, input: &[u8], out: &mut [u8]) -> usize {
 }
 
 // The text, which ends its lines itself.
-fn run_program(program: u8, input: &[u8], out: &mut [u8]) {
+fn run_program(rt: &impl Print, program: u8, input: &[u8], out: &mut [u8]) {
     let n = program_text(program, input, out);
     if out.len() < n {
         return;
     }
-    print_word(&out[..n]);
+    print_word(rt, &out[..n]);
 }
 
-fn run_case<'a>(call: u8, a: &'a [u8], b: &'a [u8], c: &[u8], out: &mut [u8]) {
+fn run_case<'a>(rt: &impl Print, call: u8, a: &'a [u8], b: &'a [u8], c: &[u8], out: &mut [u8]) {
     match call {
-        0 => run_hand_back(a, b, c),
-        8 => run_check(checker::check(a, b)),
-        b'C' => run_check(checker::links_check(a, b)),
-        b'b' | b'c' | b'f' | b'j' | b'k' | b'l' | b'r' => run_program(call, a, out),
-        _ => run_call(call, a, b, c, out),
+        0 => run_hand_back(rt, a, b, c),
+        8 => run_check(rt, checker::check(a, b)),
+        b'C' => run_check(rt, checker::links_check(a, b)),
+        b'b' | b'c' | b'f' | b'j' | b'k' | b'l' | b'r' => run_program(rt, call, a, out),
+        _ => run_call(rt, call, a, b, c, out),
     }
 }
 
 // A number of two bytes, or 65536 where they are not there.
-fn read_number() -> usize
+fn read_number(rt: &impl Input) -> usize
     ensures { result ≤ 65536 }
 {
     let mut head = [0u8; 2];
-    if io::read_full(0, &mut head) < 2 {
+    if streams::read_full(rt, &mut head) < 2 {
         return 65536;
     }
     wide(head[0]) * 256 + wide(head[1])
 }
 
 // A part of this size: whether it was there.
-fn read_part(part: &mut [u8], size: usize) -> bool {
+fn read_part(rt: &impl Input, part: &mut [u8], size: usize) -> bool {
     if part.len() < size {
         return false;
     }
-    let got = io::read_full(0, &mut part[..size]);
+    let got = streams::read_full(rt, &mut part[..size]);
     size <= got
 }
 
@@ -272,6 +288,7 @@ struct Sizes {
 
 // Parts of these sizes: whether there is room for them.
 fn run_sized<'a>(
+    rt: &impl Print,
     call: u8,
     sizes: Sizes,
     a: &'a [u8],
@@ -295,46 +312,46 @@ fn run_sized<'a>(
     if out.len() < room {
         return false;
     }
-    run_case(call, &a[..i], &b[..j], &c[..k], &mut out[..room]);
+    run_case(rt, call, &a[..i], &b[..j], &c[..k], &mut out[..room]);
     true
 }
 
 // One case: whether there was one.
-fn run_one() -> bool {
+fn run_one(rt: &(impl Input + Print)) -> bool {
     let mut call = [0u8; 1];
-    if io::read_full(0, &mut call) < 1 {
+    if streams::read_full(rt, &mut call) < 1 {
         return false;
     }
     let mut first = [0u8; 65535];
-    let i = read_number();
-    if !read_part(&mut first, i) {
+    let i = read_number(rt);
+    if !read_part(rt, &mut first, i) {
         return false;
     }
     let mut second = [0u8; 65535];
-    let j = read_number();
-    if !read_part(&mut second, j) {
+    let j = read_number(rt);
+    if !read_part(rt, &mut second, j) {
         return false;
     }
     let mut third = [0u8; 1024];
-    let k = read_number();
-    if !read_part(&mut third, k) {
+    let k = read_number(rt);
+    if !read_part(rt, &mut third, k) {
         return false;
     }
     let mut out = [255u8; 64002];
-    let room = read_number();
+    let room = read_number(rt);
     let sizes = Sizes {
         first: i,
         second: j,
         third: k,
         room: room,
     };
-    run_sized(call[0], sizes, &first, &second, &third, &mut out)
+    run_sized(rt, call[0], sizes, &first, &second, &third, &mut out)
 }
 
 // A proved loop has to end, so it counts down from a number that no run uses up.
-fn main() {
+fn main(rt: HostRuntime) {
     let mut turns: u64 = 1000000;
-    while turns > 0 && run_one() {
+    while turns > 0 && run_one(&rt) {
         turns -= 1;
     }
 }

@@ -2,7 +2,7 @@
 -- given (02, R-8): the query's length in two bytes, high first, the query, and behind it what heapverdict or linksverdict printed, or a
 -- derivation's bytes.
 use Rattle.std.specs.Prelude.{ℕ, ◌+◌, ◌/◌, ◌%◌, false, cond, List, [], ◌∷◌, ◌++◌, length, take, drop, ltb}
-use Rattle.std.proofs.Math.Option.{Option·elim}
+use Rattle.std.proofs.Math.Option.{Option-elim}
 use Rattle.logic.specs.Calls.{CallForm, one_link_form}
 use Rattle.logic.specs.ThreeLinks.{three_link_form}
 use Rattle.text.specs.Text.{ascii, decimal}
@@ -15,7 +15,7 @@ use Rattle.checking.specs.CheckCall.{Checked, accepted, wrong, refused, count_in
 unfoldable pub text_bytes : List ℕ → List ℕ
 text_bytes text =
     let count : ℕ = newlines text in
-    let shown : List ℕ = Option·elim (numbers_from 0 0 false text) [] (λ ns. count / 256 ∷ count % 256 ∷ ns) in
+    let shown : List ℕ = Option-elim (numbers_from 0 0 false text) [] (λ ns. count / 256 ∷ count % 256 ∷ ns) in
     cond (ltb 256000 (length text)) [] (cond (ltb 16000 count) [] shown)
 
 -- Behind the query: what heapverdict printed, which begins with `unsat`, or the bytes of a derivation. No derivation that passes its checks

@@ -1,5 +1,7 @@
 // What checkderivation prints (02, R-8), and checklinks of queries with three links (02, R-11), made in a lent buffer. The programs read, ask
 // for the text and write it.
+#![tactic(auto)]
+
 ghost use Rattle.std.specs.Prelude.{◌≡◌, ◌≤◌, min, length, take};
 ghost use Rattle.text.specs.Text.{Writes};
 ghost use Rattle.checking.specs.CheckCall.{check_call_of};

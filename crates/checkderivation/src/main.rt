@@ -1,11 +1,11 @@
 // Reads a query and a derivation by anyone from standard input, and prints whether the derivation refutes the query. 321,544 bytes hold the
 // length of a query, the longest query of that length, and the longest text of 16,000 lines and a byte more.
-use libc::{STDIN_FILENO, STDOUT_FILENO};
+#![tactic(auto)]
 
-fn main() {
+fn main(rt: HostRuntime) {
     let mut input = [0u8; 321544];
     let mut text = [0u8; 64];
-    let read = io::read_full(STDIN_FILENO, &mut input);
+    let read = streams::read_full(&rt, &mut input);
     let made = check_printing::put_text(&mut text, &input[..read]);
-    io::write_all(STDOUT_FILENO, &text[..made]);
+    streams::write_all(&rt, &text[..made]);
 }

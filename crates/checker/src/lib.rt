@@ -1,5 +1,7 @@
 // Derivations from elsewhere, of queries in the form of 01 or with three links (02, R-11): their lines are read in place, one after the other,
 // each where it stands.
+#![tactic(auto)]
+
 ghost use Rattle.std.specs.Prelude.{◌≡◌, true, ◌≤◌, length};
 ghost use Rattle.logic.specs.Rules.{branch};
 ghost use Rattle.logic.specs.ThreeLinks.{three_link_form};

@@ -1,6 +1,6 @@
 -- What the call answers on every input (02, R-8). It is lent nothing to write into.
 use Rattle.std.specs.Prelude.{ℕ, zero, suc, ◌+◌, ◌*◌, Bool, not, cond, List, [], length, get_or, eqb, ltb}
-use Rattle.std.proofs.Math.Option.{Option, Option·elim}
+use Rattle.std.proofs.Math.Option.{Option, Option-elim}
 use Rattle.logic.specs.Search.{◌or◌}
 use Rattle.logic.specs.Derivation.{lines_in}
 use Rattle.logic.specs.Calls.{Answer, CallForm, one_link_form, refusal_of}
@@ -41,7 +41,7 @@ unfoldable pub check_call_of : CallForm → List ℕ → List ℕ → Checked
 check_call_of f query derivation =
     let judged : Checked = by_wrong (wrong_line (f.decode query) (lines_in derivation)) in
     let own : Checked = cond (misshapen derivation) (refused 20 0) judged in
-    Option·elim (query_refusal f query) own refused_query
+    Option-elim (query_refusal f query) own refused_query
 
 -- the call of R-8, for the form of 01
 abbrev pub check_call : List ℕ → List ℕ → Checked

@@ -1,7 +1,7 @@
 -- Which lines fit where they stand, and which is the first that does not (02, R-8). Nothing here is a walk of ours: what is still to be
 -- refuted is kept as a list, and a line either fits what stands first there or does not.
 use Rattle.std.specs.Prelude.{ℕ, suc, ◌≡◌, Bool, cond, List, [], ◌∷◌, ◌++◌, map, length, eqb}
-use Rattle.std.proofs.Math.Option.{Option, none, some, Option·elim}
+use Rattle.std.proofs.Math.Option.{Option, none, some, Option-elim}
 use Rattle.logic.specs.Search.{◌and◌, keep}
 use Rattle.logic.specs.Query.{Query, term_count}
 use Rattle.logic.specs.Facts.{Facts, Joined, Line, line, join_lines, start_joins, start, is_clash}
@@ -32,7 +32,7 @@ goals_of n s m = map (λ c. goal_of (branch n s c)) (alternatives n s.graph m)
 unfoldable pub after_rule : Query → Facts → Line → Option (List Goal)
 after_rule q s l =
     let n : ℕ = term_count q in
-    Option·elim (move_in s.links l) none (λ m. keep (applies n s m) (goals_of n s m))
+    Option-elim (move_in s.links l) none (λ m. keep (applies n s m) (goals_of n s m))
 
 -- What a line leaves of a path: "each path ends in a true clash (any one, with any plain partner) as soon as a clash stands"; where none
 -- stands, a rule line leaves its branches. No other line fits there.
@@ -49,7 +49,7 @@ at_goal q (h ∷ hs) s l = keep (same_line l h) (record { heading = hs; facts = 
 -- What a line leaves of all that is still to be refuted, next first. "nothing follows": where nothing is left, no line fits.
 unfoldable pub step : Query → List Goal → Line → Option (List Goal)
 step q [] l = none
-step q (g ∷ gs) l = Option·elim (at_goal q g.heading g.facts l) none (λ new. some (new ++ gs))
+step q (g ∷ gs) l = Option-elim (at_goal q g.heading g.facts l) none (λ new. some (new ++ gs))
 
 -- at first: the start, the lines of its joins at its head
 unfoldable pub start_goal : Query → Goal
@@ -63,7 +63,7 @@ short_of i (g ∷ gs) = i
 -- "Otherwise the first wrong line's number is given, count plus 1 if the lines run out": lines from number i on, and 0 where none is wrong
 unfoldable pub wrong_from : Query → List Goal → ℕ → List Line → ℕ
 wrong_from q gs i [] = short_of i gs
-wrong_from q gs i (l ∷ ls) = Option·elim (step q gs l) i (λ hs. wrong_from q hs (suc i) ls)
+wrong_from q gs i (l ∷ ls) = Option-elim (step q gs l) i (λ hs. wrong_from q hs (suc i) ls)
 
 unfoldable pub wrong_line : Query → List Line → ℕ
 wrong_line q lines = wrong_from q (start_goal q ∷ []) 1 lines

@@ -1,1 +1,2 @@
 // Derivations from elsewhere: definitions in specs/, theorems in proofs/. There is no code in this crate.
+#![tactic(auto)]

@@ -1,4 +1,6 @@
 // The clash of a path, over the query's bytes in place.
+#![tactic(auto)]
+
 ghost use Rattle.std.specs.Prelude.{◌≡◌, ◌+◌, ◌*◌, ◌≤◌, ◌<◌, length};
 ghost use Rattle.facts.specs.Path.{rep_of};
 ghost use Rattle.link_query.specs.Said.{said, Within};

@@ -1,4 +1,6 @@
 // A path closed under the rules that neither branch nor join: REFLEX, TRANS1 and TRANS2, all at once.
+#![tactic(auto)]
+
 ghost use Rattle.std.specs.Prelude.{◌≡◌, Bool, ℕ, ◌≤◌, ◌<◌, length};
 ghost use Rattle.logic.specs.Search.{◌and◌};
 ghost use Rattle.logic.specs.Decision.{Closes};

@@ -1,4 +1,6 @@
 // How an answer is one number for C (include/lemitsaka.h).
+#![tactic(auto)]
+
 ghost use Rattle.std.specs.Prelude.{◌≡◌};
 ghost use Rattle.codes.specs.Codes.{own, refusal, with_high, code};
 

@@ -137,7 +137,8 @@ link_end n g q p v h = rw (select_end q (n + 1) v (omega arith))
 same-reach : (n : ℕ) (link link' reach : ℕ → ℕ → Bool) (p : ℕ → ℕ) (vs : List ℕ) → link_each n (linking link reach) p vs ≡ link_each n (linking link' reach) p vs
 unfolding link_each new_link in_basin basin_link tree_link reached
 same-reach n link link' reach p [] = refl
-same-reach n link link' reach p (v ∷ vs) = same-reach n link link' reach _ vs
+same-reach n link link' reach p (v ∷ vs) =
+    same-reach n link link' reach (λ t. cond (eqb t v and eqb (p v) 0) (new_link n (linking link reach) p v) (p t)) vs
 
 pub live_selected : (n : ℕ) (s : Facts) → live_terms n s ≡ select (λ t. eqb (s.rep t) t) (from (n + 1 - 1) 1)
 unfolding live_terms terms live ◌and◌
@@ -170,7 +171,7 @@ module _ (n : ℕ) (s : Facts) (k : ℕ) (rep link reach : List ℕ) (stands : r
 each_below : (n : ℕ) (g : Graph) (p : ℕ → ℕ) (vs : List ℕ) → ((t : ℕ) → p t ≤ n) → (t : ℕ) → link_each n g p vs t ≤ n
 unfolding link_each
 each_below n g p [] h t = h t
-each_below n g p (v ∷ vs) h t = each_below n g _ vs (λ u. go u (eqb u v and eqb (p v) 0)) t
+each_below n g p (v ∷ vs) h t = each_below n g (λ u. cond (eqb u v and eqb (p v) 0) (new_link n g p v) (p u)) vs (λ u. go u (eqb u v and eqb (p v) 0)) t
   where
     go : (u : ℕ) (b : Bool) → cond b (new_link n g p v) (p u) ≤ n
     go u true = new_below n g p v

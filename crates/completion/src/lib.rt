@@ -1,4 +1,6 @@
 // The links of the heap shown: "Known links stay. Each remaining term v, ascending, gets a link" (01; 000, Def. 4).
+#![tactic(auto)]
+
 ghost use Rattle.std.specs.Prelude.{◌≡◌, not, ℕ, ◌+◌, ◌-◌, ◌≤◌, ◌<◌, eqb, ltb};
 ghost use Rattle.rows.specs.Bits.{bit};
 ghost use Rattle.rows.specs.Answers.{found_of};

@@ -1,4 +1,6 @@
 // A path whose facts another path holds, in the terms that stand for them there: whatever heap meets the other meets it too.
+#![tactic(auto)]
+
 ghost use Rattle.std.specs.Prelude.{◌≡◌, true, ℕ, ◌≤◌};
 ghost use Rattle.rows.specs.Bits.{bit};
 ghost use Rattle.rows.specs.Square.{row_of, square};

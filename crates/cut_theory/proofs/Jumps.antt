@@ -21,6 +21,7 @@ use Rattle.cut_theory.specs.Jumps.{without, Jumps}
 
 pub without_less : (i : ℕ) (is : List ℕ) → Memᴰ i is → length (without i is) < length is
 unfolding without select
+without_less i [] m = elim m [ ]
 without_less i (j ∷ is) (Memᴰ.head e) =
     rw (ap not (eqb_intro (sym e))) (let l = select-length (λ k. not (eqb k i)) is in omega (arith, l))
 without_less i (j ∷ is) (Memᴰ.tail m) = go (not (eqb j i)) (without_less i is m)

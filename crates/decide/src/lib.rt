@@ -1,5 +1,7 @@
 // Whether some finite heap meets the query and the facts of a path. How it is found out is free: a budget of plain steps, or strategies of
 // our own. What each of them says is right whatever it picks, and one that runs out says nothing.
+#![tactic(auto)]
+
 ghost use Rattle.std.specs.Prelude.{◌≡◌, true, ◌⊎◌, ◌*◌, ◌≤◌, length};
 ghost use Rattle.logic.specs.Query.{term_count, is_order};
 ghost use Rattle.logic.specs.Steps.{AtMost};

@@ -1,6 +1,6 @@
 -- The text of a derivation's lines, read number by number.
 use Rattle.std.specs.Prelude.{ℕ, ◌+◌, ◌-◌, ◌*◌, Bool, true, false, not, cond, List, [], ◌∷◌, ◌++◌, eqb, ltb}
-use Rattle.std.proofs.Math.Option.{Option, none, some, Option·elim}
+use Rattle.std.proofs.Math.Option.{Option, none, some, Option-elim}
 use Rattle.logic.specs.Search.{◌and◌, keep}
 use Rattle.text.specs.Text.{is_digit}
 
@@ -23,7 +23,7 @@ is_between place begun = not begun and eqb place 0
 
 -- these numbers, and then those
 unfoldable pub prepend : List ℕ → Option (List ℕ) → Option (List ℕ)
-prepend ns o = Option·elim o none (λ ms. some (ns ++ ms))
+prepend ns o = Option-elim o none (λ ms. some (ns ++ ms))
 
 -- The numbers of a text of such lines, from a place in a line on, where the digits read so far show `value`. No number is above 255.
 unfoldable pub numbers_from : ℕ → ℕ → Bool → List ℕ → Option (List ℕ)

@@ -1,4 +1,6 @@
 // The lines of a derivation as text, each of four decimal numbers: read number by number.
+#![tactic(auto)]
+
 ghost use Rattle.std.specs.Prelude.{◌≡◌, false, ◌≤◌, ◌<◌, length};
 ghost use Rattle.text.specs.Text.{ascii, is_digit};
 ghost use Rattle.decimal_lines.specs.DecimalLines.{begins, ends_number, next_place, is_between, numbers_from, newline_in, newlines};

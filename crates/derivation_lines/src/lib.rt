@@ -1,4 +1,6 @@
 // The bytes of a derivation, and what is told of its lines: their count and shape, a line held to that of a join, and the first wrong one.
+#![tactic(auto)]
+
 ghost use Rattle.std.specs.Prelude.{◌≡◌, ◌≤◌, ◌<◌, length};
 ghost use Rattle.logic.specs.Facts.{line};
 ghost use Rattle.checking.specs.CheckCall.{count_in};

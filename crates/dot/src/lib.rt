@@ -1,4 +1,6 @@
 // The text of a heap report for Graphviz. The call asks nothing of its caller.
+#![tactic(auto)]
+
 ghost use Rattle.std.specs.Prelude.{◌≤◌, length};
 ghost use Rattle.text.specs.Text.{Writes};
 ghost use Rattle.drawing.specs.Text as drawing;

@@ -1,4 +1,6 @@
 // The lines of a report's text for Graphviz: its head, a line per node and an arrow per link, each behind the first `fill` bytes.
+#![tactic(auto)]
+
 ghost use Rattle.std.specs.Prelude.{true, ◌++◌, ◌+◌, ◌≤◌, ◌<◌, length};
 ghost use Rattle.logic.specs.Search.{from, flat_map};
 ghost use Rattle.logic.specs.Shown.{size_in};

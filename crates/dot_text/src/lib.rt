@@ -1,6 +1,8 @@
-// The whole text of a report through one writer: it is made over the caller's buffer, passed on from part to part and dropped at the end
-// (02, R-2). A part with a loop takes the writer apart, lends its buffer to a function on the slice and the fill (`dot_lines`), and hands
-// the writer back with the next fill.
+// The whole text of a report through one writer: it is made over the caller's buffer, lent to part after part and dropped at the end
+// (02, R-2). A part with a loop lends the writer's buffer on to a function on the slice and the fill (`dot_lines`), and sets the fill to
+// what that function answers.
+#![tactic(auto)]
+
 ghost use Rattle.std.specs.Prelude.{◌≡◌, ◌++◌, ◌+◌, ◌≤◌, length};
 ghost use Rattle.text.specs.Text.{Writes};
 ghost use Rattle.dot_writer.specs.Written.{written};
@@ -9,42 +11,30 @@ ghost use Rattle.dot_text.specs.Parts.{head, nodes, arrows};
 use dot_writer::Writer;
 
 // "digraph heap {", and "The boolean byte stands in a comment line"
-fn put_head<'a, 'b>(w: Writer<'a>, report: &'b [u8]) -> Writer<'a>
-    requires { w.fill ≤ 1000 }
-    ensures { result ≡ written w.entry (head report.now) }
+fn put_head<'a, 'b>(w: &mut Writer<'a>, report: &'b [u8])
+    requires { w.old.fill ≤ 1000 }
+    ensures { w.new ≡ written w.old (head report.now) }
 {
     let fill = w.fill;
-    let next = dot_lines::draw_head(&mut *w.out, fill, report);
-    Writer {
-        out: w.out,
-        fill: next,
-    }
+    w.fill = dot_lines::draw_head(&mut *w.out, fill, report);
 }
 
 // "a line per node .. ascending"
-fn put_nodes<'a, 'b>(w: Writer<'a>, report: &'b [u8]) -> Writer<'a>
-    requires { w.fill + length (nodes report.now) ≤ 1000 }
-    ensures { result ≡ written w.entry (nodes report.now) }
+fn put_nodes<'a, 'b>(w: &mut Writer<'a>, report: &'b [u8])
+    requires { w.old.fill + length (nodes report.now) ≤ 1000 }
+    ensures { w.new ≡ written w.old (nodes report.now) }
 {
     let fill = w.fill;
-    let next = dot_lines::draw_nodes(&mut *w.out, fill, report);
-    Writer {
-        out: w.out,
-        fill: next,
-    }
+    w.fill = dot_lines::draw_nodes(&mut *w.out, fill, report);
 }
 
 // "then an arrow per link .. ascending"
-fn put_arrows<'a, 'b>(w: Writer<'a>, report: &'b [u8]) -> Writer<'a>
-    requires { w.fill + length (arrows report.now) ≤ 1000 }
-    ensures { result ≡ written w.entry (arrows report.now) }
+fn put_arrows<'a, 'b>(w: &mut Writer<'a>, report: &'b [u8])
+    requires { w.old.fill + length (arrows report.now) ≤ 1000 }
+    ensures { w.new ≡ written w.old (arrows report.now) }
 {
     let fill = w.fill;
-    let next = dot_lines::draw_arrows(&mut *w.out, fill, report);
-    Writer {
-        out: w.out,
-        fill: next,
-    }
+    w.fill = dot_lines::draw_arrows(&mut *w.out, fill, report);
 }
 
 // The parts, and the bytes that end the text.
@@ -52,9 +42,10 @@ pub fn draw<'a, 'b>(out: &'a mut [u8], report: &'b [u8], end: &'b [u8]) -> usize
     requires { length (head report.now) + length (nodes report.now) + length (arrows report.now) + length end.now ≤ 1000 }
     ensures { Writes out.old 0 (head report.now ++ (nodes report.now ++ (arrows report.now ++ end.now))) out.new result }
 {
-    let headed = put_head(dot_writer::new(out, 0), report);
-    let noded = put_nodes(headed, report);
-    let drawn = put_arrows(noded, report);
-    let ended = dot_writer::put_bytes(drawn, end);
-    dot_writer::filled(ended)
+    let mut w = dot_writer::new(out, 0);
+    put_head(&mut w, report);
+    put_nodes(&mut w, report);
+    put_arrows(&mut w, report);
+    dot_writer::append_bytes(&mut w, end);
+    dot_writer::filled(w)
 }

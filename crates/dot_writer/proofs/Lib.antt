@@ -1,4 +1,1 @@
-pub mod Again
-pub mod Held
-pub mod Calls
-pub mod Put
+pub mod Chain

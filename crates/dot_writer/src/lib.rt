@@ -1,7 +1,10 @@
 // A writer for text: it holds the caller's buffer and how much of it is filled (02, R-2: "Text and numbers are added through a writer
 // that holds the caller's buffer and its fill"). Each function over the struct takes it apart and calls one on the slice and the number,
-// which does the work. `add` and `add_two` above them have plain parameters, for callers that loop: each makes one writer, passes it on
-// through its parts and drops it.
+// which does the work. `append_bytes` and `append_number` do the same to a writer that is lent, so that a caller that lends its buffer to a
+// writer knows what the buffer holds at the end. `add` and `add_two` above them have plain parameters, for callers that loop: each makes
+// one writer, lends it to its parts and drops it.
+#![tactic(auto)]
+
 ghost use Rattle.std.specs.Prelude.{◌≡◌, ◌++◌, ◌+◌, ◌≤◌, length};
 ghost use Rattle.text.specs.Text.{Writes, decimal};
 ghost use Rattle.dot_writer.specs.Written.{written};
@@ -71,6 +74,24 @@ pub fn put_number<'a>(w: Writer<'a>, k: usize) -> Writer<'a>
     }
 }
 
+// Bytes are added to a writer that is lent.
+pub fn append_bytes<'a, 'b>(w: &mut Writer<'a>, bytes: &'b [u8])
+    requires { w.old.fill + length bytes.now ≤ 18446744073709551615 }
+    ensures { w.new ≡ written w.old bytes.now }
+{
+    let fill = w.fill;
+    w.fill = bytes_at(&mut *w.out, fill, bytes);
+}
+
+// A number in decimal is added to a writer that is lent.
+pub fn append_number<'a>(w: &mut Writer<'a>, k: usize)
+    requires { w.old.fill + 20 ≤ 18446744073709551615 }
+    ensures { w.new ≡ written w.old (decimal k) }
+{
+    let fill = w.fill;
+    w.fill = number_at(&mut *w.out, fill, k);
+}
+
 // A number in decimal between two words, through one writer.
 pub fn add<'a, 'b>(
     out: &'a mut [u8],
@@ -82,10 +103,11 @@ pub fn add<'a, 'b>(
     requires { fill + length before.now + 20 + length after.now ≤ 18446744073709551615 }
     ensures { Writes out.old fill (before.now ++ (decimal k ++ after.now)) out.new result }
 {
-    let first = put_bytes(new(out, fill), before);
-    let second = put_number(first, k);
-    let third = put_bytes(second, after);
-    filled(third)
+    let mut w = new(out, fill);
+    append_bytes(&mut w, before);
+    append_number(&mut w, k);
+    append_bytes(&mut w, after);
+    filled(w)
 }
 
 // Two numbers in decimal, a word behind each, through one writer.
@@ -100,9 +122,10 @@ pub fn add_two<'a, 'b>(
     requires { fill + 20 + length between.now + 20 + length after.now ≤ 18446744073709551615 }
     ensures { Writes out.old fill (decimal j ++ (between.now ++ (decimal k ++ after.now))) out.new result }
 {
-    let first = put_number(new(out, fill), j);
-    let second = put_bytes(first, between);
-    let third = put_number(second, k);
-    let fourth = put_bytes(third, after);
-    filled(fourth)
+    let mut w = new(out, fill);
+    append_number(&mut w, j);
+    append_bytes(&mut w, between);
+    append_number(&mut w, k);
+    append_bytes(&mut w, after);
+    filled(w)
 }

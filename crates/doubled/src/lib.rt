@@ -1,4 +1,6 @@
 // Doubled successors: the two that are to be joined next.
+#![tactic(auto)]
+
 ghost use Rattle.std.specs.Prelude.{◌≡◌, ◌≤◌, ◌<◌};
 ghost use Rattle.logic.specs.Facts.{first_two, successors};
 ghost use Rattle.facts.specs.Path.{links_by};

@@ -1,6 +1,6 @@
 -- What a call answers that writes a query for the one that it is given, and every byte of what is lent, on every input.
 use Rattle.std.specs.Prelude.{ℕ, ◌≡◌, ◌↔◌, Bool, true, not, List, [], ◌∷◌, ◌++◌, length, replicate}
-use Rattle.std.proofs.Math.Option.{Option·elim}
+use Rattle.std.proofs.Math.Option.{Option-elim}
 use Rattle.logic.specs.Search.{keep, is_some}
 use Rattle.logic.specs.Query.{Form}
 use Rattle.logic.specs.Calls.{Input, Check, form_checks, refusal_of, padded}
@@ -54,7 +54,7 @@ writes room bytes = record { answer = written (length bytes); lent = padded room
 unfoldable pub writing_call : Writing → List ℕ → ℕ → Outcome
 writing_call w bytes room =
     let result : Outcome = writes room (w.made bytes) in
-    Option·elim (refusal_of (writing_checks w) (given bytes room)) result (blank room)
+    Option-elim (refusal_of (writing_checks w) (given bytes room)) result (blank room)
 
 -- How such a call refuses, where this is what it means that there is no room. For every input:
 pub record WritingRefusals (w : Writing) (NoRoom : ℕ → List ℕ → Type 0) (bytes : List ℕ) (room : ℕ) : Type 0 where

@@ -1,4 +1,6 @@
 // One entry of a query's sections: what its bytes are held to, and the lowest byte that meets a refusal 5 to 8.
+#![tactic(auto)]
+
 ghost use Rattle.std.specs.Prelude.{◌≡◌, ◌+◌, ◌*◌, ◌≤◌, ◌<◌, length, get_or, drop};
 ghost use Rattle.logic.specs.Search.{or_else};
 ghost use Rattle.logic.specs.Query.{entry_role, sign_role, term_role, role_fault};
@@ -10,7 +12,7 @@ use rows::Term;
 
 // What the bytes of a section's entries are held to: equalities and reachability literals are pairs of terms. With three links (02, R-11) a
 // link stands before the byte of a term, and before the terms of a reachability literal.
-#[derive(Drop)]
+#[derive(Clone, Copy)]
 pub enum Kind {
     Terms,
     Pairs,
@@ -21,7 +23,7 @@ pub enum Kind {
 }
 
 // The entries that hold a link.
-#[derive(Drop)]
+#[derive(Clone, Copy)]
 pub enum Linked {
     Terms,
     Pairs,

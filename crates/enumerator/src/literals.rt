@@ -4,10 +4,10 @@ ghost use Rattle.std.specs.Prelude.{◌<◌};
 
 use crate::room::{Room, bit, byte};
 
-#[derive(Drop)]
+#[derive(Clone, Copy)]
 pub struct Term(pub usize);
 
-#[derive(Drop)]
+#[derive(Clone, Copy)]
 pub struct Node(pub usize);
 
 // A term that is no variable and does not name nil is f of an earlier one.

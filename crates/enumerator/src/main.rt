@@ -1,6 +1,8 @@
 // Small random queries under random orders, each decided by trying every small heap and compared with the prover's
 // verdict. The heap of each satisfiable answer is checked literal by literal. Nothing here is shared with the prover.
 // What must be printed comes from tests/enumerate.rs, which makes and decides the same queries.
+#![tactic(auto)]
+
 mod heaps;
 mod literals;
 mod queries;
@@ -9,7 +11,6 @@ mod room;
 ghost use Rattle.std.specs.Prelude.{◌+◌, ◌≤◌, ◌<◌};
 
 use crate::room::{Room, is_same, prefix, wide};
-use libc::STDOUT_FILENO;
 use prover::Answer;
 
 const QUERIES: u64 = 6000;
@@ -48,32 +49,32 @@ fn judge(order: &[u8; 8], query: &Room, length: usize) -> Outcome {
     }
 }
 
-fn print_bytes(bytes: &[u8]) {
+fn print_bytes(rt: &impl Print, bytes: &[u8]) {
     let mut i: usize = 0;
     while i < bytes.len() {
-        io::write_all(STDOUT_FILENO, b" ");
-        io::print_hex(STDOUT_FILENO, wide(bytes[i]) as u64, 2);
+        streams::write_all(rt, b" ");
+        streams::print_hex(rt, bytes[i]);
         i += 1;
     }
 }
 
 // The order and the query on which the prover fails.
-fn print_failure(order: &[u8; 8], query: &Room, length: usize) {
-    io::write_all(STDOUT_FILENO, b"fails:");
-    print_bytes(order);
-    print_bytes(prefix(query, length));
-    io::write_all(STDOUT_FILENO, b"\n");
+fn print_failure(rt: &impl Print, order: &[u8; 8], query: &Room, length: usize) {
+    streams::write_all(rt, b"fails:");
+    print_bytes(rt, order);
+    print_bytes(rt, prefix(query, length));
+    streams::write_all(rt, b"\n");
 }
 
 // The next random query is made and judged.
-fn ask(seed: &mut u64) -> Outcome {
+fn ask(rt: &impl Print, seed: &mut u64) -> Outcome {
     let order = queries::random_order(seed);
     let query = queries::next_query(seed);
     let bytes = query.bytes;
     let length = query.length;
     let outcome = judge(&order, &bytes, length);
     if !(outcome.agrees & outcome.reported) {
-        print_failure(&order, &bytes, length);
+        print_failure(rt, &order, &bytes, length);
     }
     outcome
 }
@@ -86,29 +87,29 @@ fn more(count: u64, there: bool) -> u64
     if there { count + 1 } else { count }
 }
 
-fn print_total(name: &[u8], total: u64) {
-    io::write_all(STDOUT_FILENO, name);
-    io::print_decimal(STDOUT_FILENO, total);
-    io::write_all(STDOUT_FILENO, b"\n");
+fn print_total(rt: &impl Print, name: &[u8], total: u64) {
+    streams::write_all(rt, name);
+    streams::print_decimal(rt, total);
+    streams::write_all(rt, b"\n");
 }
 
 // All queries are asked, and what came of them is counted.
-fn main() {
+fn main(rt: HostRuntime) {
     let mut seed: u64 = 1;
     let mut satisfiable: u64 = 0;
     let mut disagreements: u64 = 0;
     let mut failing: u64 = 0;
     let mut asked: u64 = 0;
     while asked < QUERIES {
-        let outcome = ask(&mut seed);
+        let outcome = ask(&rt, &mut seed);
         satisfiable = more(satisfiable, outcome.satisfiable);
         disagreements = more(disagreements, !outcome.agrees);
         failing = more(failing, !outcome.reported);
         asked += 1;
     }
-    print_total(b"queries ", asked);
-    print_total(b"satisfiable ", satisfiable);
-    print_total(b"refuted ", asked - satisfiable);
-    print_total(b"disagreements ", disagreements);
-    print_total(b"reports that fail ", failing);
+    print_total(&rt, b"queries ", asked);
+    print_total(&rt, b"satisfiable ", satisfiable);
+    print_total(&rt, b"refuted ", asked - satisfiable);
+    print_total(&rt, b"disagreements ", disagreements);
+    print_total(&rt, b"reports that fail ", failing);
 }

@@ -96,10 +96,7 @@ fn random_query(seed: &mut u64) -> Query {
 // few queries at random need SHARE.
 fn near_share(seed: &mut u64) -> Query {
     let mut query: Room = [0; 64];
-    bytes::copy(
-        &[4, 0, 0, 1, 2, 2, 1, 3, 4, 0, 1, 2, 2, 1, 1, 2, 1, 2, 1],
-        &mut query,
-    );
+    query[..19].copy_from_slice(&[4, 0, 0, 1, 2, 2, 1, 3, 4, 0, 1, 2, 2, 1, 1, 2, 1, 2, 1]);
     let changes = pick(seed, 4);
     let mut i: usize = 0;
     while i < changes {

@@ -1,4 +1,6 @@
 // The facts of a path as the code holds them: what each term was replaced by, and the rows of each link and of its reachability.
+#![tactic(auto)]
+
 ghost use Rattle.std.specs.Prelude.{◌≡◌, ◌≤◌, ◌<◌, cond, eqb, length};
 ghost use Rattle.logic.specs.Facts.{add_reach, replace, live};
 ghost use Rattle.rows.specs.Bits.{bit};
@@ -9,7 +11,7 @@ use rows::Term;
 
 // What each term was replaced by, as a byte, and the facts of each link, 17 rows a link: f(a) = b, and "a reaches b", are bit b of row a.
 // A path of a single link does not read the rows of the other two.
-#[derive(Drop)]
+#[derive(Clone, Copy)]
 pub struct Facts {
     pub rep: [u8; 17],
     pub single: bool,

@@ -1,5 +1,7 @@
 // One line at one path, whatever numbers it holds: which rule it names, by which link, whether it applies at a triple, and whether a clash is
 // a true one.
+#![tactic(auto)]
+
 ghost use Rattle.std.specs.Prelude.{◌≡◌, Bool, true, cond, ℕ, ◌+◌, ◌*◌, ◌≤◌, ◌<◌, length};
 ghost use Rattle.logic.specs.Search.{◌and◌};
 ghost use Rattle.logic.specs.Facts.{live, line, negated_at, plain_at, is_clash};

@@ -1,4 +1,6 @@
 // The FNV-1a 32-bit mark of bytes (02, R-14).
+#![tactic(auto)]
+
 ghost use Rattle.std.specs.Prelude.{◌≡◌};
 ghost use Rattle.fnv.specs.Mark.{wrapping_product, marked, mark_of};
 

@@ -1,4 +1,6 @@
 // The checks of a query in either form that calls take.
+#![tactic(auto)]
+
 ghost use Rattle.link_query.specs.Answers.{CheckedBy};
 ghost use Rattle.call_limits.specs.Forms.{form_of};
 

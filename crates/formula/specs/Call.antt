@@ -1,6 +1,6 @@
 -- What the formula call answers, and every byte of what is lent, on every input (02, R-7).
 use Rattle.std.specs.Prelude.{ℕ, suc, ◌-◌, Bool, true, false, cond, List, [], ◌∷◌, length, replicate, ltb}
-use Rattle.std.proofs.Math.Option.{Option·elim}
+use Rattle.std.proofs.Math.Option.{Option-elim}
 use Rattle.logic.specs.Query.{decode}
 use Rattle.logic.specs.Calls.{verdict_checks, refusal_of, verdict_call}
 use Rattle.logic.specs.Calls as calls
@@ -71,4 +71,4 @@ as_refusal calls.refuted = refuted
 
 unfoldable pub formula_call : Input → Outcome
 formula_call i =
-    Option·elim (refusal_of verdict_checks (record { order = i.order; query = i.query; room = i.room })) (text_outcome i) (λ a. blank i.room (as_refusal a))
+    Option-elim (refusal_of verdict_checks (record { order = i.order; query = i.query; room = i.room })) (text_outcome i) (λ a. blank i.room (as_refusal a))

@@ -1,4 +1,6 @@
 // Formulas with or (02, R-7): the first satisfiable conjunction and its heap.
+#![tactic(auto)]
+
 ghost use Rattle.std.specs.Prelude.{◌≡◌, true, length, replicate};
 ghost use Rattle.formula.specs.Call.{is_satisfiable, text_outcome, formula_call};
 ghost use Rattle.formula_reader.specs.Marked.{Pickable};

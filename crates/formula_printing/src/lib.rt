@@ -1,4 +1,6 @@
 // What formulaverdict prints, made in a lent buffer. The program reads, asks for the text and writes it.
+#![tactic(auto)]
+
 ghost use Rattle.std.specs.Prelude.{◌≡◌, ◌+◌, ◌*◌, ◌≤◌, ◌<◌, min, length, get_or, true};
 ghost use Rattle.logic.specs.Shown.{well_formed};
 ghost use Rattle.text.specs.Text.{Writes};

@@ -1,4 +1,6 @@
 // The query of a conjunction, as bytes: the query's terms, and of each section the literals that are marked.
+#![tactic(auto)]
+
 ghost use Rattle.std.specs.Prelude.{◌≡◌, cond, [], ◌+◌, ◌*◌, ◌≤◌, ◌<◌, length, take, drop, eqb};
 ghost use Rattle.logic.specs.Query.{literals};
 ghost use Rattle.text.specs.Text.{Writes};

@@ -1,4 +1,6 @@
 // Reading a formula's text: readers for or, and, item that call each other and leave the formula as nodes in an array.
+#![tactic(auto)]
+
 ghost use Rattle.std.specs.Prelude.{◌≡◌, true, ◌+◌, ◌*◌, ◌-◌, ◌≤◌, ◌<◌, length, get_or, drop};
 ghost use Rattle.formula.specs.Grammar.{is_place, shown, disjunction, conjunction, item};
 ghost use Rattle.formula.specs.Places.{digits_at, past_digits};

@@ -1,4 +1,6 @@
 // Shares of a total as fractions in lowest terms (02, R-14).
+#![tactic(auto)]
+
 ghost use Rattle.std.specs.Prelude.{◌≡◌, ◌+◌, ◌≤◌, ◌<◌, length};
 ghost use Rattle.text.specs.Text.{Writes};
 ghost use Rattle.fractions.specs.Fractions.{gcd, share, total_of, fraction_text, shares_text};

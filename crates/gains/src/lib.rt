@@ -1,5 +1,7 @@
 // The place of a branching rule whose alternatives would add most facts, as far as counting tells. That the rule applies there is proved; that
 // no other place would add more is not, since no verdict rests on it.
+#![tactic(auto)]
+
 ghost use Rattle.std.specs.Prelude.{◌≡◌, List, ℕ, ◌≤◌, length};
 ghost use Rattle.logic.specs.Search.{from, select};
 ghost use Rattle.rows.specs.Bits.{bit};

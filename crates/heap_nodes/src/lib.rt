@@ -1,4 +1,6 @@
 // The nodes of the heap shown: the terms that stand, numbered, and a byte of each in a buffer.
+#![tactic(auto)]
+
 ghost use Rattle.std.specs.Prelude.{◌≡◌, ℕ, ◌+◌, ◌≤◌, ◌<◌, map, length, get_or};
 ghost use Rattle.facts.specs.Path.{rep_of};
 ghost use Rattle.heap_nodes.specs.Nodes.{node_of, marked, nodes_by, Numbers};
@@ -8,7 +10,7 @@ ghost use Rattle.completion.specs.Links.{link_of};
 use rows::Term;
 
 // A node of the heap by its number.
-#[derive(Drop)]
+#[derive(Clone, Copy)]
 pub struct Node(pub usize);
 
 // The terms that are nodes: those not replaced. With no terms, the one node is that of 0, which is no term.

@@ -1,10 +1,11 @@
 // Reads what heapverdict prints, or a heap report's bytes, from standard input, and prints the heap's picture in Graphviz's DOT
 // language: `heapverdict <query | heapdot | dot -Tpng`. Where there is no heap, a line on standard error says why, and nothing else is
 // printed.
+#![tactic(auto)]
+
 ghost use Rattle.std.specs.Prelude.{◌≤◌};
 
 use dot::DotAnswer;
-use libc::{STDERR_FILENO, STDOUT_FILENO};
 
 // The value of a hex digit, or 16.
 fn hex_value(b: u8) -> u8
@@ -74,76 +75,67 @@ fn begins(input: &[u8], word: &[u8]) -> bool {
     true
 }
 
-fn print_text(text: &[u8], length: usize) {
+fn print_text(rt: &impl Print, text: &[u8], length: usize) {
     if text.len() < length {
         return;
     }
-    io::write_all(STDOUT_FILENO, &text[..length]);
+    streams::write_all(rt, &text[..length]);
 }
 
 // The picture of a report.
-fn print_dot(report: &[u8]) {
+fn print_dot(rt: &(impl Print + Eprint), report: &[u8]) {
     let mut text = [0u8; 508];
     match dot::dot(report, &mut text) {
-        DotAnswer::Written(length) => print_text(&text, length),
+        DotAnswer::Written(length) => print_text(rt, &text, length),
         DotAnswer::Refused(_, _) => {
-            io::write_all(
-                STDERR_FILENO,
-                b"heapdot: this is no well-formed heap report\n",
-            );
+            streams::print_error(rt, "heapdot: this is no well-formed heap report\n");
         }
     }
 }
 
 // The picture of a report in hex digits, with a buffer for its bytes.
-fn print_decoded(input: &[u8], report: &mut [u8]) {
+fn print_decoded(rt: &(impl Print + Eprint), input: &[u8], report: &mut [u8]) {
     let count = decode(input, 4, report);
     if report.len() < count {
-        io::write_all(
-            STDERR_FILENO,
-            b"heapdot: after sat, two hex digits for each byte are wanted\n",
+        streams::print_error(
+            rt,
+            "heapdot: after sat, two hex digits for each byte are wanted\n",
         );
         return;
     }
-    print_dot(&report[..count]);
+    print_dot(rt, &report[..count]);
 }
 
-fn print_hex_dot(input: &[u8]) {
+fn print_hex_dot(rt: &(impl Print + Eprint), input: &[u8]) {
     let mut report = [0u8; 4096];
-    print_decoded(input, &mut report);
+    print_decoded(rt, input, &mut report);
 }
 
-fn print_picture(input: &[u8]) {
+fn print_picture(rt: &(impl Print + Eprint), input: &[u8]) {
     if begins(input, b"sat\n") {
-        print_hex_dot(input);
+        print_hex_dot(rt, input);
         return;
     }
     if begins(input, b"unsat\n") {
-        io::write_all(
-            STDERR_FILENO,
-            b"heapdot: the query is refuted, so no heap meets it\n",
-        );
+        streams::print_error(rt, "heapdot: the query is refuted, so no heap meets it\n");
         return;
     }
     if begins(input, b"refused ") {
-        io::write_all(
-            STDERR_FILENO,
-            b"heapdot: heapverdict refused the query, so there is no heap\n",
+        streams::print_error(
+            rt,
+            "heapdot: heapverdict refused the query, so there is no heap\n",
         );
         return;
     }
-    print_dot(input);
+    print_dot(rt, input);
 }
 
-fn main() {
+fn main(rt: HostRuntime) {
     let mut input = [0u8; 4096];
-    let n = io::read_full(0, &mut input);
+    let n = streams::read_full(&rt, &mut input);
     if 4095 < n {
-        io::write_all(
-            STDERR_FILENO,
-            b"heapdot: the input is longer than a report\n",
-        );
+        streams::print_error(&rt, "heapdot: the input is longer than a report\n");
         return;
     }
-    print_picture(&input[..n]);
+    print_picture(&rt, &input[..n]);
 }

@@ -1,4 +1,6 @@
 // The bytes that are held of a stream: whether more are waited for, and those that are kept for the next piece.
+#![tactic(auto)]
+
 ghost use Rattle.std.specs.Prelude.{◌≡◌, ◌++◌, ◌+◌, ◌-◌, ◌≤◌, min, length, take, drop};
 ghost use Rattle.held_bytes.specs.Waiting.{must_wait};
 

@@ -1,4 +1,6 @@
 // Bytes in hex digits: a query, and a literal with where it stands (02, R-12).
+#![tactic(auto)]
+
 ghost use Rattle.std.specs.Prelude.{◌++◌, map, ◌≤◌, length, drop};
 ghost use Rattle.text.specs.Text.{Writes, ascii, decimal, hex_byte};
 ghost use Rattle.wording.specs.Words.{behind};

@@ -1,7 +1,7 @@
 -- What joinqueries prints, byte for byte, as a function of the bytes that it is given (02, R-12): two queries, each behind its length in two
 -- bytes, high first, and then a pair list, or a clash line as heapverdict prints it.
 use Rattle.std.specs.Prelude.{ℕ, ◌+◌, List, [], ◌++◌, false, cond, length, take, drop, ltb}
-use Rattle.std.proofs.Math.Option.{Option·elim}
+use Rattle.std.proofs.Math.Option.{Option-elim}
 use Rattle.text.specs.Text.{ascii, decimal}
 use Rattle.wording.specs.Words.{refused_text}
 use Rattle.hex_lines.specs.HexLines.{hex_line}
@@ -43,7 +43,7 @@ handed_text first second line =
 
 -- the numbers of a line, none where it is no line or a text of more than 64 bytes
 unfoldable pub line_in : List ℕ → List ℕ
-line_in text = cond (ltb 64 (length text)) [] (Option·elim (numbers_from 0 0 false text) [] (λ ns. ns))
+line_in text = cond (ltb 64 (length text)) [] (Option-elim (numbers_from 0 0 false text) [] (λ ns. ns))
 
 -- Behind the queries: a line in decimal that begins with 9, or a pair list. No pair list that passes its check begins so: it would have 57 pairs,
 -- and term 32 in the first.

@@ -1,4 +1,6 @@
 // What joinqueries prints, made in a lent buffer (02, R-12). The program reads, asks for the text and writes it.
+#![tactic(auto)]
+
 ghost use Rattle.std.specs.Prelude.{◌≡◌, ◌++◌, ◌≤◌, length, take};
 ghost use Rattle.text.specs.Text.{Writes};
 ghost use Rattle.wording.specs.Words.{refused_text};

@@ -1,4 +1,6 @@
 // Two queries joined into one, and the hand-back of the literal that a clash line names. No call asks anything of its caller.
+#![tactic(auto)]
+
 ghost use Rattle.std.specs.Prelude.{◌≡◌, true, [], ◌∷◌, ◌++◌, map, ◌+◌, ◌*◌, ◌≤◌, ◌<◌, length, replicate, get_or, take, drop};
 ghost use Rattle.logic.specs.Search.{all, flat_map};
 ghost use Rattle.logic.specs.Query.{literals, decode};

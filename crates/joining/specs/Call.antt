@@ -1,6 +1,6 @@
 -- What the joining call answers, and every byte of what is lent, on every input (02, R-12).
 use Rattle.std.specs.Prelude.{ℕ, cond, List, [], length, replicate, leb}
-use Rattle.std.proofs.Math.Option.{Option, Option·elim}
+use Rattle.std.proofs.Math.Option.{Option, Option-elim}
 use Rattle.logic.specs.Search.{◌and◌}
 use Rattle.logic.specs.Query.{Query, term_count, decode}
 use Rattle.logic.specs.Calls.{query_checks, refusal_of, padded}
@@ -54,5 +54,5 @@ join_of a b pairs room =
 unfoldable pub join_call : List ℕ → List ℕ → List ℕ → ℕ → Outcome
 join_call first second pairs room =
     let joins : Outcome = join_of (decode first) (decode second) pairs room in
-    let rest : Outcome = Option·elim (query_refusal second) joins (λ a. blank room (of_second a)) in
-    Option·elim (query_refusal first) rest (λ a. blank room (of_first a))
+    let rest : Outcome = Option-elim (query_refusal second) joins (λ a. blank room (of_second a)) in
+    Option-elim (query_refusal first) rest (λ a. blank room (of_first a))

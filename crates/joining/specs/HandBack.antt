@@ -1,6 +1,6 @@
 -- The hand-back: where the literal that a clash line names stands in one of the two lent queries (02, R-12).
 use Rattle.std.specs.Prelude.{ℕ, ◌+◌, ◌-◌, ◌*◌, Bool, cond, List, [], length, get_or, take, drop, eqb, ltb, leb}
-use Rattle.std.proofs.Math.Option.{Option·elim}
+use Rattle.std.proofs.Math.Option.{Option-elim}
 use Rattle.logic.specs.Search.{◌and◌}
 use Rattle.logic.specs.Query.{Literal, Query, term_count, decode}
 use Rattle.logic.specs.Calls as calls
@@ -63,8 +63,8 @@ of_second calls.refuted = refused 0 0
 unfoldable pub hand_back_call : List ℕ → List ℕ → List ℕ → Handed
 hand_back_call first second line =
     let found : Handed = hand_back_of (decode first) (decode second) line in
-    let rest : Handed = Option·elim (query_refusal second) found of_second in
-    Option·elim (query_refusal first) rest of_first
+    let rest : Handed = Option-elim (query_refusal second) found of_second in
+    Option-elim (query_refusal first) rest of_first
 
 -- "hand back that literal's own bytes from whichever of the two lent queries it came from". "A refused hand-back is an empty part".
 unfoldable pub part_of : Handed → List ℕ → List ℕ → List ℕ

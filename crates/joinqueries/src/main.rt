@@ -1,12 +1,12 @@
 // Reads two teams' queries and a pair list, or a clash line, from standard input, and prints both as one query, or the literal that the line
 // names. 131,214 bytes hold two queries of any length that two bytes give, and a pair list longer than any that passes.
-use libc::{STDIN_FILENO, STDOUT_FILENO};
+#![tactic(auto)]
 
-fn main() {
+fn main(rt: HostRuntime) {
     let mut input = [0u8; 131214];
     let mut text = [0u8; 2200];
-    let read = io::read_full(STDIN_FILENO, &mut input);
+    let read = streams::read_full(&rt, &mut input);
     let made = join_printing::put_text(&mut text, &input[..read]);
     let end = check_printing::at_most(made, 2200);
-    io::write_all(STDOUT_FILENO, &text[..end]);
+    streams::write_all(&rt, &text[..end]);
 }

@@ -1,4 +1,6 @@
 // Joins of a path, in place: two terms, then doubled successors, with the pairs that were joined.
+#![tactic(auto)]
+
 ghost use Rattle.std.specs.Prelude.{◌≡◌, ◌+◌, ◌≤◌, ◌<◌, min, max, [], ◌∷◌, ◌++◌, length};
 ghost use Rattle.logic.specs.Facts.{and_then, settle, join};
 ghost use Rattle.facts.specs.Path.{Whole};

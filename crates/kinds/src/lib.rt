@@ -1,9 +1,11 @@
 // What is found out of a path, and the tests of it.
+#![tactic(auto)]
+
 ghost use Rattle.std.specs.Prelude.{◌≡◌};
 ghost use Rattle.kinds.specs.Kinds.{is_refuted, is_unknown};
 
 // What is found out of a path.
-#[derive(Drop)]
+#[derive(Clone, Copy)]
 pub enum Kind {
     Refuted,
     Open,

@@ -4,8 +4,7 @@ ghost use Rattle.between_search.specs.Calls.{between_call};
 ghost use Rattle.lemitsaka.specs.VerdictPromise.{Codes};
 
 // The between call for C.
-#[unsafe(no_mangle)]
-pub extern "C" fn lemitsaka_between(query: &[u8], report: &mut [u8]) -> u64
+pub fn lemitsaka_between(query: &[u8], report: &mut [u8]) -> u64
     ensures { Codes (between_call query.now (length report.old)) result report.new }
 {
     answer_codes::between_number(between_call::between(query, report))

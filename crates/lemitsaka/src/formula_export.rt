@@ -4,13 +4,7 @@ ghost use Rattle.formula_call.specs.FormulaPromise.{formula_input};
 ghost use Rattle.lemitsaka.specs.FormulaPromise.{CodesFormula};
 
 // The formula call for C.
-#[unsafe(no_mangle)]
-pub extern "C" fn lemitsaka_formula(
-    order: &[u8],
-    query: &[u8],
-    text: &[u8],
-    report: &mut [u8],
-) -> u64
+pub fn lemitsaka_formula(order: &[u8], query: &[u8], text: &[u8], report: &mut [u8]) -> u64
     ensures { CodesFormula (formula_call (formula_input order.now query.now text.now report.old)) result report.new }
 {
     answer_codes::formula_number(formula_call::formula(order, query, text, report))

@@ -1,4 +1,6 @@
-// Every call, exported for C (include/lemitsaka.h). Each answers one number: below 65,536 the call's own answer, else a refusal.
+// Every call as C calls it (include/lemitsaka.h); lemitsaka_c exports them. Each answers one number: below 65,536 the call's own answer, else a refusal.
+#![tactic(auto)]
+
 pub mod between_export;
 pub mod check_export;
 pub mod dot_export;

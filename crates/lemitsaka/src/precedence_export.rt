@@ -4,8 +4,7 @@ ghost use Rattle.ordering.specs.Calls.{order_call};
 ghost use Rattle.lemitsaka.specs.PrecedencePromise.{OrderCodes};
 
 // The order list of a precedence sheet, or none and its ring.
-#[unsafe(no_mangle)]
-pub extern "C" fn lemitsaka_order(sheet: &[u8], out: &mut [u8]) -> u64
+pub fn lemitsaka_order(sheet: &[u8], out: &mut [u8]) -> u64
     ensures { OrderCodes (order_call sheet.now (length out.old)) result out.new }
 {
     answer_codes::order_number(precedence::order_of(sheet, out))

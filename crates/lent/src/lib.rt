@@ -1,4 +1,6 @@
 // Bytes that a caller lends: cleared, and written one behind the other into zeros.
+#![tactic(auto)]
+
 ghost use Rattle.std.specs.Prelude.{◌≡◌, ◌+◌, ◌<◌, [], ◌∷◌, length, replicate};
 ghost use Rattle.lent.specs.Appending.{Appends};
 

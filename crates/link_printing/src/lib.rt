@@ -1,4 +1,6 @@
 // What rewritelinks prints, made in a lent buffer (02, R-11). The program reads, asks for the text and writes it.
+#![tactic(auto)]
+
 ghost use Rattle.text.specs.Text.{Writes};
 ghost use Rattle.link_printing.specs.LinkText.{text_of, rewritelinks_text};
 

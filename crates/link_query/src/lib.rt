@@ -1,4 +1,6 @@
 // Queries with three links (02, R-11): refusals 2, 3, 26, 4, 22 and 5 to 8, and the bytes of a query of either form read in place.
+#![tactic(auto)]
+
 ghost use Rattle.std.specs.Prelude.{◌≡◌, ◌+◌, ◌*◌, ◌≤◌, ◌<◌, length, get_or};
 ghost use Rattle.logic.specs.ThreeLinks.{three_link_form};
 ghost use Rattle.query.specs.Sections.{Sections};

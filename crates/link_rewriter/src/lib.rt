@@ -1,4 +1,6 @@
 // Queries in the old layout, rewritten with link 1 for the calls that know three links (02, R-11). The call asks nothing of its caller.
+#![tactic(auto)]
+
 ghost use Rattle.std.specs.Prelude.{◌≡◌, true, [], ◌∷◌, ◌+◌, ◌*◌, ◌≤◌, ◌<◌, length, replicate};
 ghost use Rattle.logic.specs.Search.{flat_map};
 ghost use Rattle.logic.specs.Calls.{accepts};

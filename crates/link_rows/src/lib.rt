@@ -1,4 +1,6 @@
 // Relations of up to three links in one array of rows, 17 a link: the link is one more index.
+#![tactic(auto)]
+
 ghost use Rattle.std.specs.Prelude.{◌≡◌, cond, ℕ, ◌+◌, ◌-◌, ◌*◌, ◌≤◌, ◌<◌, eqb, ltb, length};
 ghost use Rattle.logic.specs.Search.{◌and◌, ◌or◌};
 ghost use Rattle.logic.specs.Facts.{replace_in};
@@ -9,7 +11,7 @@ ghost use Rattle.link_rows.specs.Cube.{cube};
 use rows::Term;
 
 // A link by its number, from 1.
-#[derive(Drop)]
+#[derive(Clone, Copy)]
 pub struct Link(pub usize);
 
 // The place of the first row of link k.

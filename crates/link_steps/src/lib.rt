@@ -1,4 +1,6 @@
 // Steps along the links: the successor of a term, and the steps round a cycle.
+#![tactic(auto)]
+
 ghost use Rattle.std.specs.Prelude.{◌≡◌, ltb, ℕ, ◌≤◌};
 ghost use Rattle.facts.specs.Path.{links_in};
 ghost use Rattle.rows.specs.Bits.{bit};

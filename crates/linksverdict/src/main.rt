@@ -1,10 +1,10 @@
 // Reads an order list and a query with three links (02, R-11) from standard input, and prints the verdict and its evidence.
-use libc::{STDIN_FILENO, STDOUT_FILENO};
+#![tactic(auto)]
 
-fn main() {
+fn main(rt: HostRuntime) {
     let mut input = [0u8; 1024];
     let mut text = [0u8; 256006];
-    let read = io::read_full(STDIN_FILENO, &mut input);
+    let read = streams::read_full(&rt, &mut input);
     let made = printing::put_links_text(&mut text, &input[..read]);
-    io::write_all(STDOUT_FILENO, &text[..made]);
+    streams::write_all(&rt, &text[..made]);
 }

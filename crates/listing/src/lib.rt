@@ -1,4 +1,6 @@
 // The lines of a walk that is refuted, broken off as soon as there are more than anyone has use for.
+#![tactic(auto)]
+
 ghost use Rattle.std.specs.Prelude.{◌≤◌, length};
 ghost use Rattle.logic.specs.Query.{term_count};
 ghost use Rattle.logic.specs.Steps.{AtMost};

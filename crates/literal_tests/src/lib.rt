@@ -1,5 +1,7 @@
 // Tests of one literal of the query, in place, against a path: of a negated equality, of a negated reachability literal, and of a data
 // literal that may be the plain partner of a negated one.
+#![tactic(auto)]
+
 ghost use Rattle.std.specs.Prelude.{◌≡◌, not, ◌+◌, ◌*◌, ◌≤◌, length, eqb};
 ghost use Rattle.logic.specs.Search.{◌and◌};
 ghost use Rattle.facts.specs.Path.{rep_of, path_of};

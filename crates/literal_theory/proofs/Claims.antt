@@ -21,7 +21,7 @@ use Rattle.cut_theory.specs.Versions.{version, cut}
 use Rattle.cut_theory.proofs.Versions.{cut-decided, cut_stays, uncut_goes}
 use Rattle.path_theory.specs.Points.{nil, node_of, state_at}
 use Rattle.path_theory.specs.Paths.{Fact, says, gives, fact_holds, Case, SegmentPaths, segment_paths}
-use Rattle.path_theory.specs.Claims.{PathComes, SameSegment, Paired, one_more}
+use Rattle.path_theory.specs.Claims.{PathComes, SameSegment, Paired, one_more, none}
 use Rattle.path_theory.proofs.Claims.{paths_exact}
 use Rattle.literal_theory.specs.Labels.{Label, named, chosen, label_node, Plan, cut_names}
 use Rattle.literal_theory.specs.Forms.{conjunction, meets_form}
@@ -212,10 +212,12 @@ module _ (flags links : List ℕ) (x : Case) (g : State) (node : Label → ℕ) 
 
 -- Segments and their paths
 paired_left : (gs : List Segment) (hs : List SegmentPaths) → Paired gs hs → (g : Segment) → Memᴰ g gs → (h : SegmentPaths) × Memᴰ h hs × SameSegment g h
+paired_left _ _ none g m = elim m [ ]
 paired_left gs hs (one_more {h = h} x p) g (Memᴰ.head e) = (h, Memᴰ.head refl, subst (λ (z : Segment). SameSegment z h) (sym e) x)
 paired_left gs hs (one_more x p) g (Memᴰ.tail m) = let r = paired_left _ _ p g m in (r.0, Memᴰ.tail r.1, r.2)
 
 paired_right : (gs : List Segment) (hs : List SegmentPaths) → Paired gs hs → (h : SegmentPaths) → Memᴰ h hs → (g : Segment) × Memᴰ g gs × SameSegment g h
+paired_right _ _ none h m = elim m [ ]
 paired_right gs hs (one_more {g = g} x p) h (Memᴰ.head e) = (g, Memᴰ.head refl, subst (λ (z : SegmentPaths). SameSegment g z) (sym e) x)
 paired_right gs hs (one_more x p) h (Memᴰ.tail m) = let r = paired_right _ _ p h m in (r.0, Memᴰ.tail r.1, r.2)
 

@@ -35,6 +35,7 @@ use Rattle.literal_theory.proofs.OnPath.{OnPath, OwnLabel, OwnPoint, OwnPlan, la
 
 -- a member by its number
 mem-number : {A : Type 0} (d x : A) (xs : List A) → Memᴰ x xs → (k : ℕ) × (k < length xs) × (get_or xs k d ≡ x)
+mem-number d x [] m = elim m [ ]
 mem-number d x (y ∷ xs) (Memᴰ.head e) = (0, omega arith, sym e)
 mem-number d x (y ∷ xs) (Memᴰ.tail m) = let r = mem-number d x xs m in (suc r.0, omega (arith, r.1), r.2)
 

@@ -153,6 +153,8 @@ module _ (flags links : List ℕ) (x : Case) where
   fact_labels_lem : (start k : ℕ) (b : Bool) (p : Point) (f : Formula) (fs : List Fact) → FactAt k (says b p f) fs →
       Each (λ l. Memᴰ l (fact_labels flags start fs)) (fixed_labels p f ++ (choices b (chosen (start + k)) f ++ mark_labels flags p))
   unfolding fact_labels
+  fact_labels_lem start zero b p f [] at = elim at [ ]
+  fact_labels_lem start (suc k) b p f [] at = elim at [ ]
   fact_labels_lem start zero b p f (g ∷ fs) first =
       subst (λ (n : ℕ). Each (λ l. Memᴰ l (fact_labels flags start (says b p f ∷ fs))) (fixed_labels p f ++ (choices b (chosen n) f ++ mark_labels flags p)))
       (let e : start ≡ start + 0 = omega arith in e) (λ l m. Memᴰ.append_left (fact_labels flags (suc start) fs) m)
@@ -165,6 +167,8 @@ module _ (flags links : List ℕ) (x : Case) where
       (let e : suc start + k ≡ start + suc k = omega arith in e) (fact_labels_lem (suc start) k b p f fs at)
 
   fact-mem : (k : ℕ) (f : Fact) (fs : List Fact) → FactAt k f fs → Memᴰ f fs
+  fact-mem zero f [] at = elim at [ ]
+  fact-mem (suc k) f [] at = elim at [ ]
   fact-mem zero f (g ∷ fs) first = Memᴰ.head refl
   fact-mem (suc k) f (g ∷ fs) (later at) = Memᴰ.tail (fact-mem k f fs at)
 

@@ -71,6 +71,7 @@ module _ {A : Type 0} (g start : State) (nodes : List ℕ) (node : A → ℕ) wh
   -- a conjunction of some
   pub conjunction_met : (fs : List (Form A)) → says (conjunction fs) ≡ true → (f : Form A) → Memᴰ f fs → says f ≡ true
   unfolding conjunction meets_form
+  conjunction_met [] h x m = elim m [ ]
   conjunction_met (f ∷ fs) h x (Memᴰ.head e) = ap says e ∙ and_left _ _ h
   conjunction_met (f ∷ fs) h x (Memᴰ.tail m) = conjunction_met fs (and_right (says f) _ h) x m
 

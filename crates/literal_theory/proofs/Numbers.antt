@@ -120,6 +120,7 @@ label_self (after i w l) = and_intro (and_intro (eqb_self i) (stores_self w)) (l
 -- a label of a table stands at its number
 number_at : (table : List Label) (l : Label) → Memᴰ l table → get_or table (number_of table l) (named nil) ≡ l
 unfolding number_of
+number_at [] l m = elim m [ ]
 number_at (m ∷ ms) l (Memᴰ.head e) = ap (λ (n : ℕ). get_or (m ∷ ms) n (named nil)) (cond-true _ _ (ap (λ (z : Label). same_label z m) e ∙ label_self m)) ∙ sym e
 number_at (m ∷ ms) l (Memᴰ.tail mem) = found (same_label l m) refl (number_at ms l mem)
   where
@@ -135,6 +136,7 @@ label_at_lem table l mem =
 
 distinct-mem : (ls : List Label) (l : Label) → Memᴰ l ls → Memᴰ l (distinct ls)
 unfolding distinct
+distinct-mem [] l m = elim m [ ]
 distinct-mem (m ∷ ms) l (Memᴰ.head e) = Memᴰ.head e
 distinct-mem (m ∷ ms) l (Memᴰ.tail mem) = found (distinct-mem ms l mem) (bool_cases (same_label m l))
   where

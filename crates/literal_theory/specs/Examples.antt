@@ -1,6 +1,6 @@
 -- Examples that the definitions are held to: paths of the first example of 03, and one for each rule that is easily lost.
 use Rattle.std.specs.Prelude.{ℕ, ◌≡◌, Bool, true, false, List, [], ◌∷◌, map}
-use Rattle.std.proofs.Math.Option.{Option·elim}
+use Rattle.std.proofs.Math.Option.{Option-elim}
 use Rattle.logic.specs.Search.{◌and◌, select, at}
 use Rattle.routine_logic.specs.Syntax.{equal, between, flag, negation, both, either, same, forall, end, assign, assign_link, assign_flag, assert, Routine}
 use Rattle.routine_logic.specs.State.{State}
@@ -19,7 +19,7 @@ use Rattle.literal_theory.specs.Numbers.{numbered}
 
 -- the cases of a check, passed or failed, that the paths from the routine's start come to
 unfoldable pub cases_of : Routine → Check → Bool → List Case
-cases_of r c b = Option·elim (at (segment_paths r) 1) [] (λ h. select (λ x. same_check x.check c and same_truth b x.passes) (h.follow (start_trail h.assumes)))
+cases_of r c b = Option-elim (at (segment_paths r) 1) [] (λ h. select (λ x. same_check x.check c and same_truth b x.passes) (h.follow (start_trail h.assumes)))
 
 abbrev pub of_kind : ℕ → Kind → Check
 of_kind number kind = record { statement = number; kind = kind }

@@ -1,6 +1,6 @@
 -- What the two calls answer, and every byte of what is lent, on every input (01, "Refusals, in checking order").
 use Rattle.std.specs.Prelude.{ℕ, ◌+◌, ◌*◌, ◌-◌, Bool, not, cond, List, [], ◌∷◌, ◌++◌, length, replicate, ltb}
-use Rattle.std.proofs.Math.Option.{Option, none, some, Option·elim}
+use Rattle.std.proofs.Math.Option.{Option, none, some, Option-elim}
 use Rattle.logic.specs.Search.{◌or◌, keep, is_some, first_of}
 use Rattle.logic.specs.Query.{Query, Form, sections, is_order, layout_fault, byte_fault, decode}
 use Rattle.logic.specs.Walk.{Ending, refutation, saturation, our_walk}
@@ -78,7 +78,7 @@ pub record Outcome : Type 0 where
 
 -- the first of the checks that stands
 unfoldable pub refusal_of : List Check → Input → Option Answer
-refusal_of cs i = first_of (λ c. Option·elim (c.place i) none (λ place. some (refused c.number place))) cs
+refusal_of cs i = first_of (λ c. Option-elim (c.place i) none (λ place. some (refused c.number place))) cs
 
 -- "A query is accepted": room plays no part
 unfoldable pub accepts_by : CallForm → List ℕ → Bool
@@ -96,7 +96,7 @@ blank room a = record { answer = a; lent = replicate room 0 }
 unfoldable pub call : CallForm → List Check → (Ending → Outcome) → Input → Outcome
 call f cs result i =
     let walked : Outcome = result (our_walk i.order (f.decode i.query)) in
-    Option·elim (refusal_of cs i) walked (blank i.room)
+    Option-elim (refusal_of cs i) walked (blank i.room)
 
 -- "With "refuted" the whole heap report is zero."
 unfoldable pub verdict_of : Query → ℕ → Ending → Outcome

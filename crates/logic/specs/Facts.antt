@@ -1,6 +1,6 @@
 -- The facts of a path: joining, the start, and the clash (01, "Joining and starting").
 use Rattle.std.specs.Prelude.{ℕ, zero, suc, min, max, Bool, true, false, not, cond, List, [], ◌∷◌, ◌++◌, map, length, eqb, ltb, leb}
-use Rattle.std.proofs.Math.Option.{Option, none, some, Option·elim}
+use Rattle.std.proofs.Math.Option.{Option, none, some, Option-elim}
 use Rattle.logic.specs.Search.{◌and◌, ◌or◌, from, any, select, at, holds_of, first_of, find, flat_map}
 use Rattle.logic.specs.Query.{Literal, Query, literal, names_nil, argument_of, link_of, term_count}
 
@@ -79,7 +79,7 @@ and_then j f = record { pairs = j.pairs ++ (f j.facts).pairs; facts = (f j.facts
 -- "While a term has two successors, the two lowest successors of the lowest such term are joined", at most k times
 unfoldable pub settle : ℕ → ℕ → Facts → Joined
 settle n zero s = unjoined s
-settle n (suc k) s = Option·elim (doubled n s) (unjoined s) (λ ab. and_then (join_pair ab s) (settle n k))
+settle n (suc k) s = Option-elim (doubled n s) (unjoined s) (λ ab. and_then (join_pair ab s) (settle n k))
 
 -- "Joining a and b": each replacement leaves one term fewer, so n of them are enough. A term joined with itself is no pair.
 unfoldable pub join : ℕ → ℕ → ℕ → Facts → Joined

@@ -1,6 +1,6 @@
 -- Our walk, and the hand's (01, "The eight rules" and "The hand's walk and ours").
 use Rattle.std.specs.Prelude.{ℕ, zero, suc, ◌+◌, ◌*◌, Bool, not, cond, List, [], ◌∷◌, ◌++◌}
-use Rattle.std.proofs.Math.Option.{Option, none, some, Option·elim}
+use Rattle.std.proofs.Math.Option.{Option, none, some, Option-elim}
 use Rattle.logic.specs.Search.{◌and◌, any, all, is_some, flat_map}
 use Rattle.logic.specs.Query.{Query, term_count}
 use Rattle.logic.specs.Facts.{Facts, Joined, Line, join_lines, start_joins, start, clash}
@@ -14,13 +14,13 @@ pub data Look : Type 0 where
 
 -- the order list as rules
 unfoldable pub order_of : List ℕ → List Rule
-order_of order = flat_map (λ k. Option·elim (rule_of k) [] (λ r. r ∷ [])) order
+order_of order = flat_map (λ k. Option-elim (rule_of k) [] (λ r. r ∷ [])) order
 
 -- "It is looked for before any rule and ends the path."
 unfoldable pub look : Query → List Rule → Facts → Look
 look q order s =
-    let rest : Look = Option·elim (choose (term_count q) order s) saturated applying in
-    Option·elim (clash q s) rest clashing
+    let rest : Look = Option-elim (choose (term_count q) order s) saturated applying in
+    Option-elim (clash q s) rest clashing
 
 -- How our walk ends: all of its paths clash, and the lines say how; or a path has no clash and no applicable rule.
 pub data Ending : Type 0 where
@@ -56,7 +56,7 @@ end_at s go saturated = saturation s
 -- again, one step deeper." At most k rule steps are possible from the path: where none is, no rule applies, and a clash is all that is
 -- looked for.
 unfoldable pub walk : Query → List Rule → ℕ → Facts → Ending
-walk q order zero s = Option·elim (clash q s) (saturation s) (λ l. refutation (l ∷ []))
+walk q order zero s = Option-elim (clash q s) (saturation s) (λ l. refutation (l ∷ []))
 walk q order (suc k) s =
     let n : ℕ = term_count q in
     end_at s (λ m. after (move_line m ∷ []) (walk_each n (walk q order k) s (alternatives n s.graph m))) (look q order s)
@@ -91,7 +91,7 @@ is_clashed q s = is_some (clash q s)
 unfoldable pub picked : Query → Pick → Facts → List Facts
 picked q p s =
     let n : ℕ = term_count q in
-    Option·elim (move_of s.links p.rule p.at_triple) (s ∷ [])
+    Option-elim (move_of s.links p.rule p.at_triple) (s ∷ [])
     (λ m. cond (not (is_clashed q s) and applies n s m) (branches n s m) (s ∷ []))
 
 -- f of the element at a place, in its place

@@ -1,4 +1,6 @@
 // Nil taken into a path: the terms that name it are joined to the lowest, and each of its links goes to itself.
+#![tactic(auto)]
+
 ghost use Rattle.std.specs.Prelude.{◌≡◌, List, ℕ, ◌+◌, ◌≤◌, length};
 ghost use Rattle.logic.specs.Facts.{and_then, join_each, add_links, equal_to, join_nil};
 ghost use Rattle.facts.specs.Path.{path_as, Whole, replaced_by};

@@ -1,6 +1,8 @@
 // Nogoods of a query: facts that no finite heap which meets it has, held as a path of their own. Which facts are kept is a guess, and nothing is
 // proved of it; each guess is tried by what is proved (the clash of a path, its closure, a branch, subsumption), and where it fails all facts
 // of the path are taken.
+#![tactic(auto)]
+
 ghost use Rattle.std.specs.Prelude.{◌≡◌, true, false, ℕ, ◌+◌, ◌*◌, ◌≤◌, ◌<◌, length};
 ghost use Rattle.logic.specs.Query.{Query};
 ghost use Rattle.theory.proofs.Query.Tied.{Accepted};
@@ -20,7 +22,7 @@ use rows::{Found, Term};
 use rules::{Rule, Third};
 
 // A rule by a link at a triple.
-#[derive(Drop)]
+#[derive(Clone, Copy)]
 pub struct Move {
     pub link: Link,
     pub rule: Rule,

@@ -1,5 +1,7 @@
 // The first open path under the customer's order, without turning back: at each rule its branches are decided from left to right, and
 // the walk goes into the first that is not refuted.
+#![tactic(auto)]
+
 ghost use Rattle.std.specs.Prelude.{◌≡◌, true, false, ◌-◌};
 ghost use Rattle.logic.specs.Query.{term_count, is_order};
 ghost use Rattle.logic.specs.Rules.{triple, move};

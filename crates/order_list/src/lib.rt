@@ -1,4 +1,6 @@
 // The order list: which lists of bytes are one.
+#![tactic(auto)]
+
 ghost use Rattle.std.specs.Prelude.{◌≡◌, eqb};
 ghost use Rattle.logic.specs.Search.{any};
 ghost use Rattle.logic.specs.Query.{is_order};

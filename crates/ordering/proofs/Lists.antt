@@ -32,7 +32,7 @@ mem-has x m = any_intro (eqb x) x m (eqb_self x)
 abbrev pub Split : List ℕ → ℕ → Type 0
 Split xs x = (u : List ℕ) × (v : List ℕ) × (xs ≡ u ++ x ∷ v)
 
-pub split : {xs : List ℕ} (x : ℕ) → Memᴰ x xs → Split xs x
+pub split : (x : ℕ) {xs : List ℕ} → Memᴰ x xs → Split xs x
 split x (Memᴰ.head {x = y} {xs = xs} e) = ([], xs, ap (λ (z : ℕ). z ∷ xs) (sym e))
 split x (Memᴰ.tail {x = y} {xs = xs} m) = let r = split x m in (y ∷ r.0, r.1, ap (λ (l : List ℕ). y ∷ l) r.2)
 

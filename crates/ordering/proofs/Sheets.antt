@@ -74,13 +74,13 @@ rules_numbers sheet n i l h =
     subst (λ (j : ℕ). (1 ≤ get_or sheet j 0) × (get_or sheet j 0 ≤ 8)) e (is_rule_lem (get_or sheet (1 + (i - 1)) 0) (number_rule sheet n (i - 1) (omega arith)))
 
 -- a byte of a list stands at some place of it
-mem_place : (xs : List ℕ) (x : ℕ) → Memᴰ x xs → (i : ℕ) × (i < length xs) × (x ≡ get_or xs i 0)
-mem_place xs x (Memᴰ.head e) = (0, omega arith, e)
-mem_place xs x (Memᴰ.tail {xs = ys} m) = let r = mem_place ys x m in (suc r.0, omega (arith, r.1), r.2)
+mem_place : (x : ℕ) (xs : List ℕ) → Memᴰ x xs → (i : ℕ) × (i < length xs) × (x ≡ get_or xs i 0)
+mem_place x xs (Memᴰ.head e) = (0, omega arith, e)
+mem_place x xs (Memᴰ.tail {xs = ys} m) = let r = mem_place x ys m in (suc r.0, omega (arith, r.1), r.2)
 
 pub numbers_rules : (sheet : List ℕ) → RuleNumbers sheet → rules_only sheet ≡ true
 unfolding rules_only
-numbers_rules sheet n = all_intro is_rule (drop 1 sheet) (λ x m. go x (mem_place (drop 1 sheet) x m))
+numbers_rules sheet n = all_intro is_rule (drop 1 sheet) (λ x m. go x (mem_place x (drop 1 sheet) m))
   where
     go : (x : ℕ) → (i : ℕ) × (i < length (drop 1 sheet)) × (x ≡ get_or (drop 1 sheet) i 0) → is_rule x ≡ true
     go x (i, l, e) =

@@ -1,6 +1,6 @@
 -- What the call answers, and every byte of what is lent, on every sheet and every buffer.
 use Rattle.std.specs.Prelude.{ℕ, cond, List, [], replicate, leb}
-use Rattle.std.proofs.Math.Option.{Option·elim}
+use Rattle.std.proofs.Math.Option.{Option-elim}
 use Rattle.logic.specs.Calls.{padded}
 use Rattle.ordering.specs.Sheet.{Pair, pairs, laid_out, rules_only}
 use Rattle.ordering.specs.Finding.{grow, shown_ring}
@@ -23,7 +23,7 @@ refusal room k = record { answer = refused k 0; lent = replicate room 0 }
 unfoldable pub answered : List Pair → ℕ → Outcome
 answered ps room =
     let none_kept : Outcome = record { answer = ring; lent = padded room (shown_ring ps) } in
-    Option·elim (grow ps 8 []) none_kept (λ l. record { answer = order; lent = padded room l })
+    Option-elim (grow ps 8 []) none_kept (λ l. record { answer = order; lent = padded room l })
 
 -- "Checks: 15 wrong length or count, then 16 a rule number not 1 to 8"; then 14 where fewer than eight bytes are lent
 unfoldable pub order_call : List ℕ → ℕ → Outcome

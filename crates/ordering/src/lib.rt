@@ -1,1 +1,2 @@
 // Order lists from a precedence sheet: definitions in specs/, theorems in proofs/. There is no code in this crate.
+#![tactic(auto)]

@@ -1,8 +1,9 @@
 // Reads a precedence sheet as text from standard input, a pair a line, and prints the order list, or the ring in words.
+#![tactic(auto)]
+
 ghost use Rattle.std.specs.Prelude.{◌*◌, ◌+◌, ◌≤◌, ◌<◌, length, ◌≡◌};
 ghost use Rattle.ordersheet.specs.Reading.{Few};
 
-use libc::STDOUT_FILENO;
 use precedence::OrderAnswer;
 
 // What a line says: nothing, a pair, or neither.
@@ -230,26 +231,26 @@ fn stopped(added: Added, line: usize) -> Sheet {
 }
 
 // Bytes, to standard output.
-fn put(bytes: &[u8]) {
-    io::write_all(STDOUT_FILENO, bytes);
+fn put(rt: &impl Print, bytes: &[u8]) {
+    streams::write_all(rt, bytes);
 }
 
-fn print_line_number(line: usize) {
-    put(b"line ");
-    io::print_decimal(STDOUT_FILENO, line as u64);
+fn print_line_number(rt: &impl Print, line: usize) {
+    put(rt, b"line ");
+    streams::print_decimal(rt, line as u64);
 }
 
 // A rule's name.
-fn print_name(r: u8) {
+fn print_name(rt: &impl Print, r: u8) {
     match r {
-        1 => put(b"REFLEX"),
-        2 => put(b"TRANS1"),
-        3 => put(b"TRANS2"),
-        4 => put(b"FUNC"),
-        5 => put(b"CYCLE"),
-        6 => put(b"SCC"),
-        7 => put(b"TOTAL"),
-        _ => put(b"SHARE"),
+        1 => put(rt, b"REFLEX"),
+        2 => put(rt, b"TRANS1"),
+        3 => put(rt, b"TRANS2"),
+        4 => put(rt, b"FUNC"),
+        5 => put(rt, b"CYCLE"),
+        6 => put(rt, b"SCC"),
+        7 => put(rt, b"TOTAL"),
+        _ => put(rt, b"SHARE"),
     }
 }
 
@@ -258,45 +259,45 @@ fn wide(x: u8) -> u64 {
 }
 
 // The order list: numbers, blanks between.
-fn print_order(order: &[u8; 8]) {
+fn print_order(rt: &impl Print, order: &[u8; 8]) {
     let mut i: usize = 0;
     while i < 8 {
         if 0 < i {
-            put(b" ");
+            put(rt, b" ");
         }
-        io::print_decimal(STDOUT_FILENO, wide(order[i]));
+        streams::print_decimal(rt, wide(order[i]));
         i += 1;
     }
-    put(b"\n");
+    put(rt, b"\n");
 }
 
 // The ring in words, back to its first rule.
-fn print_ring(ring: &[u8; 8]) {
-    put(b"none: ");
+fn print_ring(rt: &impl Print, ring: &[u8; 8]) {
+    put(rt, b"none: ");
     let mut i: usize = 0;
     while i < 8 {
         if ring[i] != 0 {
-            print_name(ring[i]);
-            put(b" before ");
+            print_name(rt, ring[i]);
+            put(rt, b" before ");
         }
         i += 1;
     }
-    print_name(ring[0]);
-    put(b"\n");
+    print_name(rt, ring[0]);
+    put(rt, b"\n");
 }
 
 // The answer for a sheet.
-fn print_answer(sheet: &[u8]) {
+fn print_answer(rt: &impl Print, sheet: &[u8]) {
     let mut bytes = [0u8; 8];
     match precedence::order_of(sheet, &mut bytes) {
-        OrderAnswer::Order => print_order(&bytes),
-        OrderAnswer::Ring => print_ring(&bytes),
-        OrderAnswer::Refused(_, _) => put(b"refused\n"),
+        OrderAnswer::Order => print_order(rt, &bytes),
+        OrderAnswer::Ring => print_ring(rt, &bytes),
+        OrderAnswer::Refused(_, _) => put(rt, b"refused\n"),
     }
 }
 
 // The answer for the first pairs of a sheet.
-fn print_pairs(sheet: &[u8], count: usize) {
+fn print_pairs(rt: &impl Print, sheet: &[u8], count: usize) {
     if 28 < count {
         return;
     }
@@ -304,31 +305,34 @@ fn print_pairs(sheet: &[u8], count: usize) {
     if sheet.len() < n {
         return;
     }
-    print_answer(&sheet[..n]);
+    print_answer(rt, &sheet[..n]);
 }
 
 // The answer for a text.
-fn print_text(text: &[u8]) {
+fn print_text(rt: &impl Print, text: &[u8]) {
     let mut sheet = [0u8; 57];
     match read_sheet(text, &mut sheet) {
-        Sheet::Read(count) => print_pairs(&sheet, count),
+        Sheet::Read(count) => print_pairs(rt, &sheet, count),
         Sheet::BadLine(line) => {
-            print_line_number(line);
-            put(b": expected two rules, as `SHARE before TOTAL` or `8 7`\n");
+            print_line_number(rt, line);
+            put(
+                rt,
+                b": expected two rules, as `SHARE before TOTAL` or `8 7`\n",
+            );
         }
         Sheet::TooMany(line) => {
-            print_line_number(line);
-            put(b": more than 28 pairs\n");
+            print_line_number(rt, line);
+            put(rt, b": more than 28 pairs\n");
         }
     }
 }
 
-fn main() {
+fn main(rt: HostRuntime) {
     let mut text = [0u8; 8192];
-    let n = io::read_full(0, &mut text);
+    let n = streams::read_full(&rt, &mut text);
     if n < 8192 {
-        print_text(&text[..n]);
+        print_text(&rt, &text[..n]);
     } else {
-        put(b"more than 8191 bytes\n");
+        put(&rt, b"more than 8191 bytes\n");
     }
 }

@@ -1,4 +1,6 @@
 // The shortest ring of a sheet's pairs.
+#![tactic(auto)]
+
 ghost use Rattle.std.specs.Prelude.{◌≡◌, true, false, ◌∷◌, ℕ, ◌-◌, ◌≤◌, ◌<◌, length, get_or, eqb};
 ghost use Rattle.logic.specs.Search.{◌and◌, any};
 ghost use Rattle.logic.specs.Calls.{padded};

@@ -37,6 +37,7 @@ module _ (s : State) (nodes : List ℕ) (c : Check) (b : Bool) (at : State) wher
 
   member_meets : (l : ℕ) (es : Events) → Memᴰ (checked c b l at) es → Meets s nodes c b at es
   unfolding Meets About
+  member_meets l [] m = elim m [ ]
   member_meets l (met k ∷ es) (Memᴰ.head e) = absurd (subst About e (refl, refl, refl))
   member_meets l (gave k v ∷ es) (Memᴰ.head e) = absurd (subst About e (refl, refl, refl))
   member_meets l (checked d a k t ∷ es) (Memᴰ.head e) = inl (subst About e (refl, refl, refl))
@@ -55,6 +56,7 @@ module _ (s : State) (nodes : List ℕ) (c : Check) (b : Bool) (at : State) wher
 
   member_sees : (x : Case) (xs : Cases) → Memᴰ x xs → Tells s nodes c b at x → Sees s nodes c b at xs
   unfolding Sees
+  member_sees x [] m t = elim m [ ]
   member_sees x (y ∷ ys) (Memᴰ.head e) t =
       inl (subst (SeesOne s nodes c b at) e (t.same_check, t.same_value, t.facts_hold, t.same_state))
   member_sees x (y ∷ ys) (Memᴰ.tail m) t = inr (member_sees x ys m t)

@@ -1,4 +1,6 @@
 // Where a strategy goes on: a rule that applies, by which link, and its triple.
+#![tactic(auto)]
+
 ghost use Rattle.std.specs.Prelude.{◌≤◌};
 ghost use Rattle.facts.specs.Path.{path_of};
 ghost use Rattle.link_query.specs.Said.{Within};

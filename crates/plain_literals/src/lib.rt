@@ -1,4 +1,6 @@
 // The plain literals of a query taken into a path: its equalities are joined, its reachability facts are added.
+#![tactic(auto)]
+
 ghost use Rattle.std.specs.Prelude.{◌≡◌, Bool, cond, List, ℕ, ◌+◌, ◌*◌, ◌≤◌, length, take, drop};
 ghost use Rattle.logic.specs.Query.{literals};
 ghost use Rattle.logic.specs.Facts.{and_then, join_each, reach_each};

@@ -1,5 +1,7 @@
 // Plain steps: our walk of a path under the order list, without its lines. They tell whether some finite heap meets the query and the facts of the
 // path, and where the walk ends.
+#![tactic(auto)]
+
 ghost use Rattle.std.specs.Prelude.{◌≡◌, true, ◌≤◌, length};
 ghost use Rattle.logic.specs.Walk.{look, order_of};
 ghost use Rattle.logic.specs.Query.{term_count, is_order};

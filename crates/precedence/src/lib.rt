@@ -1,4 +1,6 @@
 // Order lists from a precedence sheet: the smallest order list that keeps every pair, or the shortest ring of pairs.
+#![tactic(auto)]
+
 ghost use Rattle.std.specs.Prelude.{◌≡◌, true, [], ◌++◌, ◌-◌, ◌≤◌, length, take, replicate, eqb};
 ghost use Rattle.logic.specs.Search.{any, all};
 ghost use Rattle.ordering.specs.Sheet.{pairs, laid_out, rules_only};

@@ -1,4 +1,6 @@
 // What heapverdict and linksverdict print, made in a lent buffer. The program reads, asks for the text and writes it.
+#![tactic(auto)]
+
 ghost use Rattle.std.specs.Prelude.{◌≡◌, ◌+◌, ◌≤◌, ◌<◌, min, length, replicate};
 ghost use Rattle.logic.specs.Search.{flat_map};
 ghost use Rattle.logic.specs.Derivation.{lines_in};

@@ -1,5 +1,7 @@
 // A place of a branching rule with an alternative that would soon clash: closed, and with every place taken that has one alternative left.
 // That the rule applies there is proved; that the alternative clashes is not, since no verdict rests on it.
+#![tactic(auto)]
+
 ghost use Rattle.std.specs.Prelude.{◌≡◌, cond, List, ℕ, ◌≤◌, eqb};
 ghost use Rattle.logic.specs.Search.{is_some};
 ghost use Rattle.logic.specs.Facts.{clash};

@@ -1,5 +1,7 @@
 // Lemitsaka's calls: a verdict with its heap, and a derivation, of queries in the form of 01 or with three links (02, R-11). None asks
 // anything of its caller.
+#![tactic(auto)]
+
 ghost use Rattle.std.specs.Prelude.{◌≡◌, true, ◌+◌, ◌*◌, ◌≤◌, length, replicate, eqb};
 ghost use Rattle.logic.specs.Query.{is_order};
 ghost use Rattle.logic.specs.Walk.{Verdict, our_walk, our_verdict};
@@ -17,7 +19,7 @@ use query::Layout;
 use query_checks::Checked;
 
 // What a call answers: a verdict, or a refusal's number and place.
-#[derive(Drop)]
+#[derive(Clone, Copy)]
 pub enum Answer {
     Satisfiable,
     Refuted,

@@ -1,4 +1,6 @@
 // Where the sections of a query stand, refusals 2 to 4 and 26, and reading a literal in place.
+#![tactic(auto)]
+
 ghost use Rattle.std.specs.Prelude.{◌≡◌, ◌+◌, ◌*◌, ◌≤◌, length};
 ghost use Rattle.query.specs.Forms.{entry_kind, reach_kind};
 ghost use Rattle.query.specs.Sections.{ReadAs, LaidOut};
@@ -8,7 +10,7 @@ use rows::Term;
 
 // Where the sections of a query stand: the first byte of each behind its count, and the count. The terms stand at 1. With one link the query
 // has the form of 01, and with three that of 02, R-11.
-#[derive(Drop)]
+#[derive(Clone, Copy)]
 pub struct Layout {
     pub links: usize,
     pub terms: usize,
@@ -21,7 +23,7 @@ pub struct Layout {
 }
 
 // The same of a query in a form that has booleans (02, R-13).
-#[derive(Drop)]
+#[derive(Clone, Copy)]
 pub struct FullLayout {
     pub layout: Layout,
     pub boolean_at: usize,

@@ -1,4 +1,6 @@
 // Refusals 5 to 8 of the bytes of a query that is laid out, and the checks of a query in the form of 01: refusals 2 to 8 and 26.
+#![tactic(auto)]
+
 ghost use Rattle.query.specs.Sections.{Sections};
 ghost use Rattle.query_checks.specs.Answers.{FoundIn, PassesIn, BytesChecked, FullCheckedAs, CheckedAs};
 

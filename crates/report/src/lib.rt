@@ -1,4 +1,6 @@
 // The heap report's bytes.
+#![tactic(auto)]
+
 ghost use Rattle.std.specs.Prelude.{◌≡◌, ℕ, ◌+◌, ◌*◌, ◌≤◌, ◌∷◌, map, length, get_or};
 ghost use Rattle.rows.specs.Square.{square};
 ghost use Rattle.facts.specs.Path.{path_of, rep_of, HasLink};

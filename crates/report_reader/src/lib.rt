@@ -1,4 +1,6 @@
 // A heap report's bytes: what stands where, and the checked test that it is well formed.
+#![tactic(auto)]
+
 ghost use Rattle.std.specs.Prelude.{◌≡◌, ◌+◌, ◌-◌, ◌<◌, length, get_or, eqb};
 ghost use Rattle.logic.specs.Search.{from, all};
 ghost use Rattle.logic.specs.Shown.{size_in, node_in, is_node, well_formed};

@@ -1,4 +1,6 @@
 // What rewritequery prints, made in a lent buffer (02, R-13). The program reads, asks for the text and writes it.
+#![tactic(auto)]
+
 ghost use Rattle.std.specs.Prelude.{◌≤◌, length};
 ghost use Rattle.text.specs.Text.{Writes};
 ghost use Rattle.rewriter.specs.Promise.{meaning};

@@ -1,4 +1,6 @@
 // The rewriting of old queries (02, R-13). The call asks nothing of its caller.
+#![tactic(auto)]
+
 ghost use Rattle.std.specs.Prelude.{◌≡◌, [], ◌∷◌, ◌+◌, ◌*◌, ◌≤◌, ◌<◌, length, replicate};
 ghost use Rattle.text.specs.Text.{Writes};
 ghost use Rattle.rewriting.specs.Call.{rewrite_call};

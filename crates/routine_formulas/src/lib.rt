@@ -1,4 +1,6 @@
 // A formula of a table in a state.
+#![tactic(auto)]
+
 ghost use Rattle.std.specs.Prelude.{◌≡◌, [], ◌∷◌, ◌+◌, ◌≤◌, ◌<◌, length, get_or};
 ghost use Rattle.logic.specs.Search.{all, from};
 ghost use Rattle.routine_logic.specs.Formulas.{base_node, node, holds};

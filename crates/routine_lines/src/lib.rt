@@ -1,4 +1,6 @@
 // The lines that programs print of a text, made in a lent buffer.
+#![tactic(auto)]
+
 ghost use Rattle.std.specs.Prelude.{◌+◌, ◌≤◌};
 ghost use Rattle.text.specs.Text.{Writes};
 ghost use Rattle.routine_lines.specs.Words.{word_of};

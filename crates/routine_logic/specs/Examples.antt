@@ -1,6 +1,6 @@
 -- Examples that the definitions are held to: those of 03, and one for each rule that is easily lost.
 use Rattle.std.specs.Prelude.{ℕ, ◌-◌, ◌≡◌, Bool, true, false, cond, List, [], ◌∷◌, ◌++◌, map, eqb, length, get_or}
-use Rattle.std.proofs.Math.Option.{Option, none, some, Option·elim}
+use Rattle.std.proofs.Math.Option.{Option, none, some, Option-elim}
 use Rattle.logic.specs.Search.{from, at}
 use Rattle.routine_logic.specs.Syntax.{null, variable, bound, Term, Formula, always, never, equal, unequal, reaches, between, flag, negation, both, either, implies, same, forall, Place, Clause, Code, end, assign, assign_link, assign_flag, havoc, assume, assert, cover, branch, loop, leave, break_out, Routine}
 use Rattle.routine_logic.specs.State.{State, IsState}
@@ -36,9 +36,9 @@ plainly body = record { line = 1; requires = []; ensures = []; body = body }
 unfoldable pub state_of : List (List ℕ) → List (List ℕ) → List ℕ → State
 state_of links flags variables =
     record {
-      size = Option·elim (at links 1) 1 length;
-      link = λ i v. Option·elim (at links i) v (λ l. get_or l (v - 1) 1);
-      field = λ j v. Option·elim (at flags j) false (λ l. eqb (get_or l (v - 1) 0) 1);
+      size = Option-elim (at links 1) 1 length;
+      link = λ i v. Option-elim (at links i) v (λ l. get_or l (v - 1) 1);
+      field = λ j v. Option-elim (at flags j) false (λ l. eqb (get_or l (v - 1) 0) 1);
       variable = λ x. get_or variables x 1;
     }
 
@@ -65,9 +65,9 @@ pub record Trial : Type 0 where
 unfoldable pub seen : Trial → Option Seen
 seen t =
     let s : State = state_of t.links t.flags t.variables in
-    Option·elim (at (segments t.routine) t.segment) none λ g.
-    Option·elim (at (checks t.routine) t.check) none λ c.
-    Option·elim (shown g (record { state = s; nodes = t.nodes }) c.check t.passes) none λ e.
+    Option-elim (at (segments t.routine) t.segment) none λ g.
+    Option-elim (at (checks t.routine) t.check) none λ c.
+    Option-elim (shown g (record { state = s; nodes = t.nodes }) c.check t.passes) none λ e.
     some (record {
       admitted = meets s g.assumes;
       path = e.path;

@@ -1,4 +1,6 @@
 // Where a term of a table dereferences NULL in a state.
+#![tactic(auto)]
+
 ghost use Rattle.std.specs.Prelude.{◌≡◌, ◌+◌, ◌≤◌, ◌<◌};
 ghost use Rattle.routine_logic.specs.Runs.{dereferenced};
 ghost use Rattle.routine_table.specs.Cells.{term_of};

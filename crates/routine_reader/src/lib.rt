@@ -1,4 +1,6 @@
 // The machine that reads a routine's text: a stack of symbols in a lent array, and the grammar as numbers.
+#![tactic(auto)]
+
 ghost use Rattle.std.specs.Prelude.{◌≡◌, ◌+◌, ◌*◌, ◌≤◌, ◌<◌, length};
 ghost use Rattle.routine_reader.specs.Rows.{rows, choices, row, choice};
 ghost use Rattle.routine_reader.specs.Stack.{stack_of, pushed};

@@ -1,4 +1,6 @@
 // A state as bytes: its nodes, links, flags and variables, and what is reached in it.
+#![tactic(auto)]
+
 ghost use Rattle.std.specs.Prelude.{◌≡◌, ◌+◌, ◌*◌, ◌≤◌, ◌<◌, length, get_or};
 ghost use Rattle.between_search.specs.Tests.{step_count};
 ghost use Rattle.routine_logic.specs.State.{with_variable, with_link, with_flag};

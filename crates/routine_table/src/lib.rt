@@ -1,4 +1,6 @@
 // The table of a text: its numbers, by place. What they say is in specs/.
+#![tactic(auto)]
+
 ghost use Rattle.std.specs.Prelude.{◌≡◌, ◌+◌, ◌*◌, ◌≤◌, ◌<◌};
 ghost use Rattle.routine_table.specs.Cells.{cell, statement_cell, clause_cell, routine_cell, part_cell};
 
@@ -35,7 +37,7 @@ pub fn clause_cell(table: &[u16], i: usize, k: usize) -> usize
 
 pub fn routine_cell(table: &[u16], r: usize, k: usize) -> usize
     requires { (r ≤ 65536) × (k ≤ 7) }
-    ensures* { λ typeof.r.value. ⌜ (typeof.r.value ≡ routine_cell table.now r k) × (typeof.r.value ≤ 65535) ⌝ }
+    ensures { (result ≡ routine_cell table.now r k) × (result ≤ 65535) }
 {
     cell(table, 16384 + 8 * r + k)
 }

@@ -80,6 +80,7 @@ first_alone n =
   where
     below : (x : Mark) → Memᴰ x (n ∷ []) → before x n ≡ false
     below x (Memᴰ.head q) = order-before n x (subst (λ (y : Mark). order n ≤ order y) (sym q) (omega arith))
+    below x (Memᴰ.tail m) = elim m [ ]
 
 pub first-none : (ms : List Mark) → first ms ≡ none → ms ≡ []
 unfolding first

@@ -1,6 +1,6 @@
 -- What a text says, and its first fault (03, "The text" and "Answers").
 use Rattle.std.specs.Prelude.{ℕ, ◌+◌, ◌*◌, Bool, true, false, not, cond, List, [], ◌∷◌, ◌++◌, map, eqb, ltb, length, get_or}
-use Rattle.std.proofs.Math.Option.{Option, none, some, Option·elim}
+use Rattle.std.proofs.Math.Option.{Option, none, some, Option-elim}
 use Rattle.logic.specs.Search.{select}
 use Rattle.grammar_theory.specs.Grammar.{Step, shift, act}
 use Rattle.grammar_theory.specs.Machine.{Ending, accepted, stuck, unfinished}
@@ -85,7 +85,7 @@ earlier m n = cond (before n m) n m
 
 unfoldable pub first : List Mark → Option Mark
 first [] = none
-first (m ∷ ms) = some (Option·elim (first ms) m (earlier m))
+first (m ∷ ms) = some (Option-elim (first ms) m (earlier m))
 
 -- "at the first byte of the first word or sign that no text of the grammar could have there"
 unfoldable pub place_of : List Word → ℕ

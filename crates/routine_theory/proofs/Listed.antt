@@ -56,6 +56,7 @@ term_same t u h =
 
 once_in : (t : Term) (ts : List Term) → Memᴰ t ts → Memᴰ t (once ts)
 unfolding once
+once_in t [] m = elim m [ ]
 once_in t (u ∷ us) (Memᴰ.head e) = Memᴰ.head e
 once_in t (u ∷ us) (Memᴰ.tail m) =
     ⊎_elim
@@ -85,6 +86,7 @@ module _ (P : Check → Type 0) where
       CheckIn (checked d a l s) = P d
 
       go : (fs : Events) → Within fs → Memᴰ (checked c b x.line x.state) fs → P c
+      go [] h m = elim m [ ]
       go (met l ∷ fs) h (Memᴰ.head e) = subst CheckIn (sym e) tt
       go (gave l v ∷ fs) h (Memᴰ.head e) = subst CheckIn (sym e) tt
       go (checked d a l s ∷ fs) h (Memᴰ.head e) = subst CheckIn (sym e) h.0

@@ -43,8 +43,9 @@ AtEvent (met l) = Unit
 AtEvent (gave l v) = Unit
 AtEvent (checked c b l s) = can_fail c.kind ≡ true → b ≡ true
 
-passing_at : {es : Events} {e : Event} → Passing es → Memᴰ e es → AtEvent e
+passing_at : {e : Event} {es : Events} → Passing es → Memᴰ e es → AtEvent e
 unfolding Passing AtEvent
+passing_at {es = []} h m = elim m [ ]
 passing_at {es = met l ∷ es} h (Memᴰ.head e) = subst AtEvent (sym e) tt
 passing_at {es = gave l v ∷ es} h (Memᴰ.head e) = subst AtEvent (sym e) tt
 passing_at {es = checked c b l s ∷ es} h (Memᴰ.head e) = subst AtEvent (sym e) h.0

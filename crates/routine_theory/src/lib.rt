@@ -1,1 +1,2 @@
 // Theorems about routines in proofs/. There is no code in this crate.
+#![tactic(auto)]

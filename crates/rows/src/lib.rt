@@ -1,4 +1,6 @@
 // Rows of bits over the numbers 0 to 16, of which 1 to 16 are terms, and relations held as 17 rows.
+#![tactic(auto)]
+
 ghost use Rattle.std.specs.Prelude.{◌≡◌, ℕ, ◌+◌, ◌≤◌, ◌<◌, not, eqb, ltb, ◌∷◌, length};
 ghost use Rattle.std.proofs.Math.Option.{some};
 ghost use Rattle.logic.specs.Search.{◌and◌, ◌or◌, from, find, select};
@@ -8,7 +10,7 @@ ghost use Rattle.rows.specs.Square.{square, Turned, renamed_row, columns, rows};
 ghost use Rattle.rows.specs.Answers.{found_of};
 
 // A term by its number.
-#[derive(Drop)]
+#[derive(Clone, Copy)]
 pub struct Term(pub usize);
 
 // A term that was looked for.

@@ -1,6 +1,6 @@
 -- The search for the smallest triple, one number after the other.
 use Rattle.std.specs.Prelude.{ℕ, ◌+◌, ◌-◌, Bool}
-use Rattle.std.proofs.Math.Option.{Option, none, Option·elim}
+use Rattle.std.proofs.Math.Option.{Option, none, Option-elim}
 use Rattle.logic.specs.Search.{from, keep, first_of}
 use Rattle.logic.specs.Facts.{Graph, link_numbers}
 use Rattle.logic.specs.Rules.{Rule, Triple, triple, Move, move, rule_of, triples}
@@ -22,7 +22,7 @@ unfoldable pub move_at : ℕ → ℕ → (ℕ → Bool) → Graph → Rule → O
 move_at i n alive g r = first_of (λ t. keep (allowed n alive g (move i r t)) (move i r t)) (triples n)
 
 unfoldable pub tried_at : ℕ → ℕ → (ℕ → Bool) → Graph → ℕ → Option Move
-tried_at i n alive g k = Option·elim (rule_of k) none (move_at i n alive g)
+tried_at i n alive g k = Option-elim (rule_of k) none (move_at i n alive g)
 
 -- "within a rule link 1 is tried first" (02, R-11): the rule that has number k, by the first of three links that allows it
 unfoldable pub tried_by : ℕ → (ℕ → Bool) → (ℕ → Graph) → ℕ → Option Move

@@ -1,4 +1,6 @@
 // The choice of a rule: the first that applies, at the smallest triple.
+#![tactic(auto)]
+
 ghost use Rattle.std.specs.Prelude.{◌≡◌, Bool, true, false, List, ℕ, ◌≤◌, ◌<◌};
 ghost use Rattle.facts.specs.Path.{graph_of, graph_in, path_as};
 ghost use Rattle.rules.specs.Answers.{kind_of, choice_of};

@@ -1,6 +1,6 @@
 -- Each rule's test in two halves: what it asks of the first two numbers, and what it asks of the third.
 use Rattle.std.specs.Prelude.{ℕ, Bool, true, false, not, eqb}
-use Rattle.std.proofs.Math.Option.{Option·elim}
+use Rattle.std.proofs.Math.Option.{Option-elim}
 use Rattle.logic.specs.Search.{◌and◌}
 use Rattle.logic.specs.Facts.{Graph}
 use Rattle.logic.specs.Rules.{Rule, REFLEX, TRANS1, TRANS2, FUNC, CYCLE, SCC, TOTAL, SHARE, rule_of}
@@ -28,7 +28,7 @@ two_way TOTAL = true
 two_way SHARE = true
 
 unfoldable pub looks_back : ℕ → Bool
-looks_back k = Option·elim (rule_of k) false two_way
+looks_back k = Option-elim (rule_of k) false two_way
 
 module _ (alive : ℕ → Bool) (g : Graph) (x y : ℕ) where
   unfoldable pub pair_test : Rule → Bool

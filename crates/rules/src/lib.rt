@@ -1,4 +1,6 @@
 // The eight rules, and the rows of the numbers that each asks for.
+#![tactic(auto)]
+
 ghost use Rattle.std.specs.Prelude.{◌≡◌, true, ℕ, ◌≤◌};
 ghost use Rattle.facts.specs.Path.{graph_of};
 ghost use Rattle.rules.specs.Answers.{kind_of, numbered_of};
@@ -10,7 +12,7 @@ ghost use Rattle.logic.specs.Rules.{rule_of};
 use link_rows::Link;
 use rows::Term;
 
-#[derive(Drop)]
+#[derive(Clone, Copy)]
 pub enum Rule {
     Reflex,
     Trans1,
@@ -23,7 +25,7 @@ pub enum Rule {
 }
 
 // The third number of a triple: a term's, or 0 where the rule has no third term, or the count of steps for CYCLE.
-#[derive(Drop)]
+#[derive(Clone, Copy)]
 pub struct Third(pub usize);
 
 // A rule that was looked for by its number.

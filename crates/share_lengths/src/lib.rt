@@ -1,4 +1,6 @@
 // The length of a query, in the bytes that were read for it (02, R-14).
+#![tactic(auto)]
+
 ghost use Rattle.std.specs.Prelude.{◌≡◌, ◌≤◌};
 ghost use Rattle.sharing.specs.Output.{is_bad, wanted};
 

@@ -1,15 +1,16 @@
 // Values of FNV-1a's public test vectors, and a tally near its limit: refusal 28 leaves it as it was, and the next derivation is added. Then the
 // streams of standard input (tests/share_vectors.py), each after its length in two bytes, high first: what ruleshares prints of each, by the same
 // functions, and a line `--`.
+#![tactic(auto)]
+
 ghost use Rattle.std.specs.Prelude.{◌≤◌, length};
 
-use libc::{STDIN_FILENO, STDOUT_FILENO};
 use tally::Tally;
 
 // A number on a line.
-fn print(k: usize) {
-    io::print_decimal(STDOUT_FILENO, k as u64);
-    io::write_all(STDOUT_FILENO, b"\n");
+fn print(rt: &impl Print, k: usize) {
+    streams::print_decimal(rt, k as u64);
+    streams::write_all(rt, b"\n");
 }
 
 fn wide(x: u32) -> usize {
@@ -17,64 +18,65 @@ fn wide(x: u32) -> usize {
 }
 
 // The counts of a tally, and the answer of the call that made it.
-fn print_step(tally: Tally, derivation: &[u8]) -> Tally {
+fn print_step(rt: &impl Print, tally: Tally, derivation: &[u8]) -> Tally {
     let step = tally::added(tally, derivation);
     let next = step.tally;
     let counts = next.counts;
-    print(step.refused);
+    print(rt, step.refused);
     let mut k: usize = 0;
     while k < 8 {
-        print(wide(counts[k]));
+        print(rt, wide(counts[k]));
         k += 1;
     }
     next
 }
 
-fn print_limits() {
-    print(wide(fnv::mark(b"")));
-    print(wide(fnv::mark(b"a")));
-    print(wide(fnv::mark(b"b")));
-    print(wide(fnv::mark(b"foobar")));
+fn print_limits(rt: &impl Print) {
+    print(rt, wide(fnv::mark(b"")));
+    print(rt, wide(fnv::mark(b"a")));
+    print(rt, wide(fnv::mark(b"b")));
+    print(rt, wide(fnv::mark(b"foobar")));
     // room for two more lines of rule 1, and none of rule 8
     let full = Tally {
         counts: [4294967293, 0, 0, 0, 0, 0, 0, 4294967295],
     };
     // 10 1 2 0, 1 1 0 0, 1 2 0 0, 9 2 1 0: a join, two lines of rule 1, a clash
     let first = print_step(
+        rt,
         full,
         b"\0\x04\x0a\x01\x02\0\x01\x01\0\0\x01\x02\0\0\x09\x02\x01\0",
     );
     // 1 1 0 0: a count would pass
-    let second = print_step(first, b"\0\x01\x01\x01\0\0");
+    let second = print_step(rt, first, b"\0\x01\x01\x01\0\0");
     // 2 1 2 0 and 8 1 2 3: the second would pass, so neither is counted
-    let third = print_step(second, b"\0\x02\x02\x01\x02\0\x08\x01\x02\x03");
+    let third = print_step(rt, second, b"\0\x02\x02\x01\x02\0\x08\x01\x02\x03");
     // 2 1 2 0 alone: the tally goes on
-    print_step(third, b"\0\x01\x02\x01\x02\0");
+    print_step(rt, third, b"\0\x01\x02\x01\x02\0");
 }
 
 // "rule 1 first, one a line"
-fn print_shares(tally: Tally) {
+fn print_shares(rt: &impl Print, tally: Tally) {
     let mut text = [0u8; 336];
     let counts = tally.counts;
     let made = fractions::put_shares(&mut text, counts);
-    io::write_all(STDOUT_FILENO, &text[..made]);
+    streams::write_all(rt, &text[..made]);
 }
 
 // A stream that has come whole, and is short: the text has room for all its lines.
-fn print_stream(text: &mut [u8], held: &mut [u8])
+fn print_stream(rt: &impl Print, text: &mut [u8], held: &mut [u8])
     requires { 128 ≤ length text.old }
 {
     let none = tally::new();
     let done = share_stream::process(text, held, true, none);
     let made = done.made;
-    io::write_all(STDOUT_FILENO, &text[..made]);
+    streams::write_all(rt, &text[..made]);
     let tally = done.tally;
-    print_shares(tally);
-    io::write_all(STDOUT_FILENO, b"--\n");
+    print_shares(rt, tally);
+    streams::write_all(rt, b"--\n");
 }
 
 // Stream by stream.
-fn print_streams(text: &mut [u8], input: &mut [u8])
+fn print_streams(rt: &impl Print, text: &mut [u8], input: &mut [u8])
     requires { 128 ≤ length text.old }
 {
     let end = input.len();
@@ -86,14 +88,14 @@ fn print_streams(text: &mut [u8], input: &mut [u8])
         }
         let from = at + 2;
         at = from + size;
-        print_stream(text, &mut input[from..at]);
+        print_stream(rt, text, &mut input[from..at]);
     }
 }
 
-fn main() {
-    print_limits();
+fn main(rt: HostRuntime) {
+    print_limits(&rt);
     let mut input = [0u8; 65536];
     let mut text = [0u8; 65536];
-    let read = io::read_full(STDIN_FILENO, &mut input);
-    print_streams(&mut text, &mut input[..read]);
+    let read = streams::read_full(&rt, &mut input);
+    print_streams(&rt, &mut text, &mut input[..read]);
 }

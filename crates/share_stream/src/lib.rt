@@ -1,5 +1,7 @@
 // What ruleshares prints of a stream that is read in pieces (02, R-14): the turns on the bytes that are held, and the bytes that are kept for
 // the next piece. The program reads, has a piece processed and writes.
+#![tactic(auto)]
+
 ghost use Rattle.std.specs.Prelude.{◌++◌, ◌≤◌, min, length, take, drop};
 ghost use Rattle.sharing.specs.Streaming.{Processes};
 ghost use Rattle.share_stream.specs.Turning.{TakesFirst};

@@ -1,5 +1,7 @@
 // What ruleshares prints, turn by turn (02, R-14). A turn is the bytes read for a length and those read behind it: the line of a query, and the
 // tally after it. The program reads, takes turns and writes.
+#![tactic(auto)]
+
 ghost use Rattle.std.specs.Prelude.{◌≡◌, true, ◌+◌, ◌/◌, ◌%◌, ◌≤◌, length};
 ghost use Rattle.logic.specs.Derivation.{lines_in};
 ghost use Rattle.prover.specs.Promise.{meaning};

@@ -1,1 +1,2 @@
 // What ruleshares prints: definitions in specs/, theorems in proofs/. There is no code in this crate.
+#![tactic(auto)]

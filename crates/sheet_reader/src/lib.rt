@@ -1,4 +1,6 @@
 // The bytes of a precedence sheet: what is refused of them, and its pairs.
+#![tactic(auto)]
+
 ghost use Rattle.std.specs.Prelude.{◌≡◌, true, ◌+◌, ◌*◌, ◌<◌, length, get_or};
 ghost use Rattle.ordering.specs.Sheet.{pair_at, laid_out, is_rule, rules_only};
 

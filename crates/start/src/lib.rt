@@ -1,4 +1,6 @@
 // The start of a query: the path that holds its links, nil's, its plain equalities and its plain reachability facts.
+#![tactic(auto)]
+
 ghost use Rattle.std.specs.Prelude.{◌≡◌, eqb};
 ghost use Rattle.theory.proofs.Query.Tied.{Accepted};
 ghost use Rattle.facts.specs.Path.{Whole};

@@ -1,11 +1,13 @@
 // A tally of rule lines: eight counts, lent to a call for each derivation and changed there (02, R-14).
+#![tactic(auto)]
+
 ghost use Rattle.std.specs.Prelude.{◌≡◌, true, false, [], ◌∷◌, ◌+◌, ◌<◌, length, get_or};
 ghost use Rattle.logic.specs.Facts.{line};
 ghost use Rattle.logic.specs.Derivation.{lines_in};
 ghost use Rattle.tally.specs.Counting.{raised, plus, fits, no_lines, Below, Adds};
 
 // The counts of rules 1 to 8.
-#[derive(Drop)]
+#[derive(Clone, Copy)]
 pub struct Tally {
     pub counts: [u32; 8],
 }

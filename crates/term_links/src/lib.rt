@@ -1,4 +1,6 @@
 // The links that section 1 of a query says.
+#![tactic(auto)]
+
 ghost use Rattle.std.specs.Prelude.{◌≡◌, ℕ};
 ghost use Rattle.logic.specs.Facts.{links_of};
 ghost use Rattle.theory.proofs.Query.Tied.{Accepted};

@@ -1,4 +1,6 @@
 // Text written into a lent buffer: a writer stores what has room, and answers the place behind what it wrote.
+#![tactic(auto)]
+
 ghost use Rattle.std.specs.Prelude.{◌≡◌, [], ◌∷◌, ◌+◌, ◌≤◌, ◌<◌, length};
 ghost use Rattle.text.specs.Text.{Writes, decimal, hex_digit, hex_byte};
 

@@ -1,5 +1,7 @@
 // Places of the branching rules where at most one alternative is left, once those that would clash at once are struck. That the rule applies
 // at a place is proved; that so few alternatives are left is not, since no verdict rests on it. The rows that such searches read are here too.
+#![tactic(auto)]
+
 ghost use Rattle.std.specs.Prelude.{◌≡◌, not, List, ℕ, ◌+◌, ◌*◌, ◌≤◌, eqb, ltb, length, get_or, take, drop};
 ghost use Rattle.logic.specs.Search.{◌and◌, ◌or◌, from, find};
 ghost use Rattle.logic.specs.Query.{literals};

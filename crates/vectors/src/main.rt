@@ -1,9 +1,9 @@
 // Runs three rows of inputs, each input after its length in two bytes, and prints what a program prints of each, with a line `--` after it:
 // heapverdict; heapverdict, but of a refuted query the first line alone, for a workload whose derivations are not stored; linksverdict. A
 // length of 65,535, which no input has, ends a row.
-ghost use Rattle.std.specs.Prelude.{◌≡◌, ◌≤◌, ◌<◌, length};
+#![tactic(auto)]
 
-use libc::STDOUT_FILENO;
+ghost use Rattle.std.specs.Prelude.{◌≡◌, ◌≤◌, ◌<◌, length};
 
 fn wide(x: u8) -> usize
     ensures { result < 256 }
@@ -29,25 +29,25 @@ fn put_text(text: &mut [u8], row: u8, input: &[u8]) -> usize
 }
 
 // An input of this length: whether it was there.
-fn run_input(room: &mut [u8], row: u8, length: usize) -> bool {
+fn run_input(rt: &(impl Input + Print), room: &mut [u8], row: u8, length: usize) -> bool {
     if room.len() < length {
         return false;
     }
-    let got = io::read_full(0, &mut room[..length]);
+    let got = streams::read_full(rt, &mut room[..length]);
     if got < length {
         return false;
     }
     let mut text = [0u8; 256006];
     let n = put_text(&mut text, row, &room[..length]);
-    io::write_all(STDOUT_FILENO, &text[..n]);
-    io::write_all(STDOUT_FILENO, b"--\n");
+    streams::write_all(rt, &text[..n]);
+    streams::write_all(rt, b"--\n");
     true
 }
 
 // One input of a row: whether there was one.
-fn run_one(row: u8) -> bool {
+fn run_one(rt: &(impl Input + Print), row: u8) -> bool {
     let mut head = [0u8; 2];
-    if io::read_full(0, &mut head) < 2 {
+    if streams::read_full(rt, &mut head) < 2 {
         return false;
     }
     let length = wide(head[0]) * 256 + wide(head[1]);
@@ -55,19 +55,19 @@ fn run_one(row: u8) -> bool {
         return false;
     }
     let mut room = [0u8; 65534];
-    run_input(&mut room, row, length)
+    run_input(rt, &mut room, row, length)
 }
 
 // A proved loop has to end, so it counts down from a number that no run uses up.
-fn run_row(row: u8) {
+fn run_row(rt: &(impl Input + Print), row: u8) {
     let mut turns: u64 = 1000000;
-    while turns > 0 && run_one(row) {
+    while turns > 0 && run_one(rt, row) {
         turns -= 1;
     }
 }
 
-fn main() {
-    run_row(0);
-    run_row(1);
-    run_row(2);
+fn main(rt: HostRuntime) {
+    run_row(&rt, 0);
+    run_row(&rt, 1);
+    run_row(&rt, 2);
 }

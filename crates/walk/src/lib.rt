@@ -1,4 +1,6 @@
 // One look of the branch walk, and the lines that it writes.
+#![tactic(auto)]
+
 ghost use Rattle.std.specs.Prelude.{◌≡◌, ◌+◌, ◌*◌, ◌≤◌, ◌<◌, length};
 ghost use Rattle.logic.specs.Facts.{line, join_lines};
 ghost use Rattle.logic.specs.Rules.{rule_number, move_number};

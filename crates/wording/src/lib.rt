@@ -1,4 +1,6 @@
 // The words that programs print: a report's bytes, the lines of a derivation, refusals. Each is made in a lent buffer.
+#![tactic(auto)]
+
 ghost use Rattle.std.specs.Prelude.{◌≡◌, true, ◌+◌, ◌*◌, ◌≤◌, ◌<◌, ◌++◌, length};
 ghost use Rattle.logic.specs.Facts.{line};
 ghost use Rattle.logic.specs.Shown.{well_formed};

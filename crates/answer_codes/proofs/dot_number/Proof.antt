@@ -16,6 +16,6 @@ dot_number_spec =
     -- numbered-requires
     (λ c κs. search rules)
     -- returns
-    (λ c. rw c.before.before.answer.given.1 c.own-answer.ensures)
+    (λ c. rw c.in-Written.is c.own_answer.ensures)
     -- returns-2
-    (λ c. rw c.before.before.answer2.given.1 c.numbered.ensures))
+    (λ c. rw c.in-Refused.is c.numbered.ensures))

@@ -24,10 +24,10 @@ join_number_spec =
     -- numbered-requires-2
     (λ c κs. search rules)
     -- returns
-    (λ c. rw c.before.before.answer.given.1 c.own-answer.ensures)
+    (λ c. rw c.in-Written.is c.own_answer.ensures)
     -- returns-2
-    (λ c. rw c.before.before.answer2.given.1 c.numbered.ensures)
+    (λ c. rw c.in-FirstRefused.is c.numbered.ensures)
     -- returns-3
-    (λ c. rw c.before.before.answer3.given.1 c.digits.ensures)
+    (λ c. rw c.in-SecondRefused.is c.digits.ensures)
     -- returns-4
-    (λ c. rw c.before.before.answer4.given.1 c.numbered2.ensures))
+    (λ c. rw c.in-Refused.is c.numbered-in-Refused.ensures))

@@ -28,12 +28,12 @@ part_number_spec =
     -- digits-requires-5
     (λ c κs. search rules)
     -- returns
-    (λ c. rw c.before.before.found.given.1 c.digits.ensures)
+    (λ c. rw c.in-InFirst.is c.digits.ensures)
     -- returns-2
-    (λ c. rw c.before.before.found2.given.1 c.digits2.ensures)
+    (λ c. rw c.in-InSecond.is c.digits-in-InSecond.ensures)
     -- returns-3
-    (λ c. rw c.before.before.found3.given.1 c.digits3.ensures)
+    (λ c. rw c.in-FirstRefused.is c.digits-in-FirstRefused.ensures)
     -- returns-4
-    (λ c. rw c.before.before.found4.given.1 c.digits4.ensures)
+    (λ c. rw c.in-SecondRefused.is c.digits-in-SecondRefused.ensures)
     -- returns-5
-    (λ c. rw c.before.before.found5.given.1 c.digits5.ensures))
+    (λ c. rw c.in-Refused.is c.digits-in-Refused.ensures))

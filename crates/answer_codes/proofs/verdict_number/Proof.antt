@@ -20,8 +20,8 @@ verdict_number_spec =
     -- numbered-requires
     (λ c κs. search rules)
     -- returns
-    (λ c. rw c.before.enum_told.given.1 c.own-answer.ensures)
+    (λ c. rw c.in-Satisfiable.is c.own_answer.ensures)
     -- returns-2
-    (λ c. rw c.before.enum-told2.given.1 c.own-answer2.ensures)
+    (λ c. rw c.in-Refuted.is c.own_answer-in-Refuted.ensures)
     -- returns-3
-    (λ c. rw c.before.before.answer.given.1 c.numbered.ensures))
+    (λ c. rw c.in-Refused.is c.numbered.ensures))

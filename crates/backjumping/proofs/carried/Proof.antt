@@ -20,9 +20,9 @@ carried_spec =
     -- unknown-requires-2
     (λ c κs. search rules)
     -- returns-2
-    (λ c. carries_nothing _ _ _ _ c.unknown2.ensures)
+    (λ c. carries_nothing _ _ _ _ c.unknown-then-not-back.ensures)
     -- returns-3
     (λ c.
-    let back = c.before.before.before.before-closing.ensures (not-false _ c.before.if2.false) in
-    let found = not-false _ c.before.before.before.before.before.if1.false in
+    let back = c.before_closing-back.ensures (not-false _ c.if-not-back.false) in
+    let found = not-false _ c.if-not-tried.false in
     record { refuted = λ e q none. (back.1 q (none found), back.0); never_open = λ e. absurd (refuted_open e) }))

@@ -17,8 +17,8 @@ search_spec =
     -- returns
     (λ c. tells_nothing _ _ _ _ c.unknown.ensures)
     -- refute-requires
-    (λ c κs. c.before.before.before.requires)
+    (λ c κs. c.requires)
     -- returns-2
     (λ c.
-    let pre = c.before.before.before.before.requires in
-    tells_finds _ _ _ _ pre.1 pre.2 (path_zero _ c.before.if1.false) _ refl c.refute.ensures))
+    let pre = c.requires in
+    tells_finds _ _ _ _ pre.1 pre.2 (path_zero _ c.if-s-ne0.false) _ refl c.refute.ensures))

@@ -12,7 +12,7 @@ sees_spec =
     tie.close
     (tie.spec
     -- find-clash-requires
-    (λ c κs. c.before.before.before.before.requires)
+    (λ c κs. c.requires)
     -- enum-known-section
     (λ c. search rules)
     -- returns
@@ -20,17 +20,17 @@ sees_spec =
     -- enum_told
     (λ c. search rules)
     -- pick-requires
-    (λ c κs. c.before.before.before.before.before.before.before.requires)
+    (λ c κs. c.requires)
     -- enum-known-k
     (λ c. search rules)
     -- enum-told-2
     (λ c. search rules)
     -- returns-2
     (λ c.
-    let pre = c.before.before.before.before.before.before.before.before.before.before.requires in
-    let found = path_clash_lem c.before.before.before.before.before.find-clash.result _ _ c.before.before.before.before.before.find-clash.ensures in
-    sees_none _ _ _ (sym (terms-said _ _ pre)) _ found _ c.before.before.pick.ensures c.before.before.before.enum_told.given.1 c.enum-told2.given.1)
+    let pre = c.requires in
+    let found = path_clash_lem c.find_clash.result _ _ c.find_clash.ensures in
+    sees_none _ _ _ (sym (terms-said _ _ pre)) _ found _ c.pick.ensures c.in_default.is c.in_default-pick.is)
     -- returns-3
     (λ c.
-    let pre = c.before.before.before.before.before.before.before.before.before.before.before.requires in
-    sees_rule _ _ _ (sym (terms-said _ _ pre)) _ c.before.before.before.pick.ensures _ _ _ _ _ c.before.k.given.1))
+    let pre = c.requires in
+    sees_rule _ _ _ (sym (terms-said _ _ pre)) _ c.pick.ensures _ _ _ _ _ c.in-Apply.is))

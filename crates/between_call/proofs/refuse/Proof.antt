@@ -13,4 +13,4 @@ refuse_spec =
     -- same-length
     (λ c. search rules)
     -- returns
-    (λ c. blank_does _ _ _ _ c.before.before.clear.ensures))
+    (λ c. blank_does _ _ _ _ c.clear.ensures))

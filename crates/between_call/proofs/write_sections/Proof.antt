@@ -29,16 +29,11 @@ write_sections_spec =
     (λ c. search rules)
     -- returns
     (λ c.
-    let after_put2 = c.before.before in let after_put = after_put2.before.before.before.before in
-    let after_put_term_section3 = after_put.before.before.before.before in
-    let after_put_term_section2 = after_put_term_section3.before.before.before.before in
-    let after_put_term_section = after_put_term_section2.before.before.before.before in
-    let after_clear = after_put_term_section.before.before.before.before in
-    let a = after_clear.before.before.before.args in
-    sections_written _ after_clear.clear.new.0 after_put_term_section.put-term-section.new.0
-    after_put_term_section2.put-term-section2.new.0 after_put_term_section3.put-term-section3.new.0 after_put.put.new.0 after_put2.put2.new.0
+    let a = c.args in
+    sections_written _ c.clear.new.buffer c.put_term_section-second.new.buffer
+    c.put_term_section-third.new.buffer c.put_term_section-fourth.new.buffer c.put-last.new.buffer c.put.new.buffer
     _ _ _ (terms a.m) (map (λ t. get_or a.links.now t 0) (terms a.m)) (λ t. get_or a.nodes.now t 0) (λ t. get_or a.fields.now t 0) _ _ _ _
-    (sym (terms-length a.m)) (sym (length-map (terms a.m) (λ t. get_or a.links.now t 0) ∙ terms-length a.m)) after_clear.clear.ensures
-    after_put_term_section.put-term-section.auto.0 after_put_term_section2.put-term-section2.auto.0 after_put_term_section3.put-term-section3.auto.0 after_put.put.auto.0
-    after_put_term_section.put-term-section.ensures after_put_term_section2.put-term-section2.ensures
-    after_put_term_section3.put-term-section3.ensures after_put.put.ensures after_put2.put2.ensures.1))
+    (sym (terms-length a.m)) (sym (length-map (terms a.m) (λ t. get_or a.links.now t 0) ∙ terms-length a.m)) c.clear.ensures
+    c.put_term_section-second.auto.buffer c.put_term_section-third.auto.buffer c.put_term_section-fourth.auto.buffer c.put-last.auto.buffer
+    c.put_term_section-second.ensures c.put_term_section-third.ensures
+    c.put_term_section-fourth.ensures c.put-last.ensures c.put.ensures.1))

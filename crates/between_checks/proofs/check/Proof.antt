@@ -17,14 +17,14 @@ check_spec =
     -- enum-known-k
     (λ c. search rules)
     -- returns
-    (λ c. refused_early _ _ _ (inl c.if1.true) (rw c.before.before.k.given.1 at c.before.before.before.before.check.ensures))
+    (λ c. refused_early _ _ _ (inl c.if-k-lt4.true) (rw c.in-Refused.is at c.check.ensures))
     -- returns-2
-    (λ c. refused_early _ _ _ (inr c.if2.true) (rw c.before.before.before.k.given.1 at c.before.before.before.before.before.check.ensures))
+    (λ c. refused_early _ _ _ (inr c.if-k-eq26.true) (rw c.in-Refused.is at c.check.ensures))
     -- returns-3
-    (λ c. refused_ends _ _ _ c.if3.true c.before.if2.false (rw c.before.before.before.before.k.given.1 at c.before.before.before.before.before.before.check.ensures))
+    (λ c. refused_ends _ _ _ c.if-k-gt4.true c.if-k-eq26.false (rw c.in-Refused.is at c.check.ensures))
     -- check-sixth-requires
-    (λ c κs. follows-five _ _ _ (omega arith) (rw c.before.before.before.before.k.given.1 at c.before.before.before.before.before.before.check.ensures))
+    (λ c κs. follows-five _ _ _ (omega arith) (rw c.in-Refused.is at c.check.ensures))
     -- returns-4
-    (λ c. accepted_ends _ _ (rw c.enum_told.given.1 at c.before.before.check.ensures))
+    (λ c. accepted_ends _ _ (rw c.in-Accepted.is at c.check.ensures))
     -- returns-5
-    (λ c. c.check-sixth.ensures))
+    (λ c. c.check_sixth.ensures))

@@ -9,21 +9,21 @@ check_sixth_spec =
     tie.close
     (tie.spec
     -- read-sixth-requires
-    (λ c κs. sixth-counted _ _ c.before.requires)
+    (λ c κs. sixth-counted _ _ c.requires)
     -- enum-known-k
     (λ c. search rules)
     -- enum-known-count
     (λ c. search rules)
     -- check-bytes-requires
-    (λ c κs. let r = rw c.before.count.given.1 at c.before.before.before.read-sixth.ensures in
+    (λ c κs. let r = rw c.in-Section.is at c.read_sixth.ensures in
     record {
-      follows = c.before.before.before.before.before.requires;
-      counted = sixth-counted _ _ c.before.before.before.before.before.requires;
+      follows = c.requires;
+      counted = sixth-counted _ _ c.requires;
       count_is = r.0;
       within = r.1;
       ends = r.2;
     })
     -- returns
-    (λ c. refused_sixth _ _ _ _ c.before.before.before.before.before.requires (rw c.before.k.given.1 at c.before.before.before.read-sixth.ensures))
+    (λ c. refused_sixth _ _ _ _ c.requires (rw c.in-Refused.is at c.read_sixth.ensures))
     -- returns-2
-    (λ c. c.check-bytes.ensures))
+    (λ c. c.check_bytes.ensures))

@@ -13,7 +13,7 @@ read_sixth_spec =
     -- shared-slice-read-count
     (λ c. search rules)
     -- cast-count
-    (λ c. omega (arith, c.shared-slice-known.given c.before.args.at))
+    (λ c. omega (arith, c.shared_slice_known-1.given c.args.at))
     -- returns
     (λ c n. sixth-above n _ _ (omega arith) (omega arith))
     -- mul-size

@@ -12,59 +12,45 @@ use Rattle.between_checks.proofs.Merged.{sixth_end, sixth-here, sixth_next, sixt
 use Rattle.between_checks.proofs.sixth_fault.Statement.{statement}
 use Rattle.between_checks.proofs.sixth_fault.Tie as tie
 
-abbrev invariant-loop : tie.invariant-loop
-invariant-loop k n query at count place₀ i₀ place i =
+abbrev invariant-loop-i : tie.invariant-loop-i
+invariant-loop-i k n query at count place₀ i₀ place i =
     (place + (count - i) * 4 ≤ length query)
     × (sixth_fault k n at count query ≡ role_fault k place (entries_left (triple_roles n) count i) (drop place query))
 
-abbrev decreases-loop : tie.decreases-loop
-decreases-loop k n query at count place₀ i₀ place i = count - i
-
--- The places that lie behind a place.
-
-abbrev triple_fault_of_enum_told : tie.After-enum-told invariant-loop decreases-loop → tie.After-triple-fault invariant-loop decreases-loop
-triple_fault_of_enum_told c = c.before.before
-
-abbrev start_of_at_loop : tie.At-loop invariant-loop decreases-loop → tie.Start invariant-loop decreases-loop
-start_of_at_loop c = c.before.before
-
-abbrev in_loop_of_enum_told : tie.After-enum-told invariant-loop decreases-loop → tie.In-loop invariant-loop decreases-loop
-in_loop_of_enum_told c = (triple_fault_of_enum_told c).before
+abbrev decreases-loop-i : tie.decreases-loop-i
+decreases-loop-i k n query at count place₀ i₀ place i = count - i
 
 pub sixth_fault_spec : {M : Type 1} → statement M
 sixth_fault_spec =
     tie.close
     (tie.spec
-    invariant-loop
-    decreases-loop
+    invariant-loop-i
+    decreases-loop-i
     -- loop-holds
-    (λ c. (rw (sub-zero c.before.args.count) c.before.requires, sixth_whole _ _ _ _ _))
+    (λ c. (rw (sub-zero c.args.count) c.requires, sixth_whole _ _ _ _ _))
     -- triple-fault-requires
-    (λ c κs. omega (arith, c.before.loop.invariant.0, c.loop-test.true))
+    (λ c κs. omega (arith, c.loop-i.invariant.0, c.loop-i-test.true))
     -- enum-known-p
     (λ c. search rules)
     -- returns
     (λ c.
-    let after_triple_fault = c.before.before.before in let in_loop = after_triple_fault.before in let at_loop = in_loop.before in
-    sym (at_loop.loop.invariant.1 ∙ sixth-here _ _ _ (start_of_at_loop at_loop).args.query.now _ _ _ in_loop.loop-test.true
-    (sym after_triple_fault.triple-fault.ensures ∙ ap fault_of c.before.p.given.1)))
+    sym (c.loop-i.invariant.1 ∙ sixth-here _ _ _ c.args.query.now _ _ _ c.loop-i-test.true
+    (sym c.triple_fault.ensures ∙ ap fault_of c.in-At.is)))
     -- enum_told
     (λ c. search rules)
     -- add-place
     (λ c.
-    let in_loop = in_loop_of_enum_told c in
-    omega (arith, in_loop.before.loop.inv.0, in_loop.loop-test.taken))
+    omega (arith, c.loop-i.invariant.0, c.loop-i-test.true))
     -- add-i
     (λ c. omega arith)
     -- loop-less
     (λ c. omega arith)
     -- loop-again
-    (λ c.
-    let in_loop = in_loop_of_enum_told c in let at_loop = in_loop.before in (
-      omega (arith, at_loop.loop.inv.0, in_loop.loop-test.taken),
-      at_loop.loop.inv.1
-          ∙ sixth_next _ _ _ (start_of_at_loop at_loop).args.query.now _ _ in_loop.loop-test.taken
-          (sym (triple_fault_of_enum_told c).triple-fault.ensures ∙ ap fault_of c.enum_told.given.1),
+    (λ c. (
+      omega (arith, c.loop-i.invariant.0, c.loop-i-test.true),
+      c.loop-i.invariant.1
+          ∙ sixth_next _ _ _ c.args.query.now _ _ c.loop-i-test.true
+          (sym c.triple_fault.ensures ∙ ap fault_of c.in-Nothing.is),
     ))
     -- returns-2
-    (λ c. sym (c.before.loop.invariant.1 ∙ sixth_end _ _ _ (start_of_at_loop c.before).args.query.now _ _ c.loop-test.false)))
+    (λ c. sym (c.loop-i.invariant.1 ∙ sixth_end _ _ _ c.args.query.now _ _ c.loop-i-test.false)))

@@ -13,20 +13,18 @@ put_text_spec =
     tie.close
     (tie.spec
     -- slice-aggregate-put-answer
-    (λ c. sym (length-take-le 1024 c.before.before.before.before.before.args.input.now (omega arith)))
+    (λ c. sym (length-take-le 1024 c.args.input.now (omega arith)))
     -- put-answer-requires
     (λ c κs. search rules)
     -- same-length
     (λ c. search rules)
     -- returns
     (λ c.
-    let after_put_answer = c.before.before in
-    (writes_as (cut_read _) after_put_answer.put-answer.ensures.0, after_put_answer.put-answer.ensures.1))
+    (writes_as (cut_read _) c.put_answer.ensures.0, c.put_answer.ensures.1))
     -- put-answer-requires-2
     (λ c κs. search rules)
     -- same-length-2
     (λ c. search rules)
     -- returns-2
     (λ c.
-    let after_put_answer2 = c.before.before in
-    (writes_as (all_read _ after_put_answer2.before.before.if1.false) after_put_answer2.put-answer2.ensures.0, after_put_answer2.put-answer2.ensures.1)))
+    (writes_as (all_read _ c.if-input-gt1024.false) c.put_answer-2.ensures.0, c.put_answer-2.ensures.1)))

@@ -12,69 +12,47 @@ use Rattle.between_search.specs.Search.{size_found, most_nodes}
 use Rattle.between_seek.specs.Answers.{query_in}
 use Rattle.between_seek.proofs.Laws.{heap_sizes, most_few}
 
-abbrev invariant-loop : tie.invariant-loop
-invariant-loop base l between count apart end m₀ m =
+abbrev invariant-loop-m : tie.invariant-loop-m
+invariant-loop-m base l between count apart end m₀ m =
     first_of (size_found (query_in base between)) (from (end - 1) 1) ≡ first_of (size_found (query_in base between)) (from (end - m) m)
 
-abbrev decreases-loop : tie.decreases-loop
-decreases-loop base l between count apart end m₀ m = end - m
-
--- The places that lie behind a place.
-
-abbrev in_loop_of_then1 : tie.Then1 invariant-loop decreases-loop → tie.In-loop invariant-loop decreases-loop
-in_loop_of_then1 c = c.before.before
-
-abbrev most_nodes_of_loop : tie.After-loop invariant-loop decreases-loop → tie.After-most-nodes invariant-loop decreases-loop
-most_nodes_of_loop c = c.before.before
-
-abbrev most_nodes_of_in_loop : tie.In-loop invariant-loop decreases-loop → tie.After-most-nodes invariant-loop decreases-loop
-most_nodes_of_in_loop c = c.before.before
-
-abbrev in_loop_of_else1 : tie.Else1 invariant-loop decreases-loop → tie.In-loop invariant-loop decreases-loop
-in_loop_of_else1 c = c.before.before
-
-abbrev start_of_most_nodes : tie.After-most-nodes invariant-loop decreases-loop → tie.Start invariant-loop decreases-loop
-start_of_most_nodes c = c.before.before.before
+abbrev decreases-loop-m : tie.decreases-loop-m
+decreases-loop-m base l between count apart end m₀ m = end - m
 
 pub heap_found_spec : {M : Type 1} → statement M
 heap_found_spec =
     tie.close
     (tie.spec
-    invariant-loop
-    decreases-loop
+    invariant-loop-m
+    decreases-loop-m
     -- most-nodes-requires
     (λ c κs. search rules)
     -- add-end
-    (λ c. let k = most_few _ (start_of_most_nodes c).requires.entered.few in omega (arith, k, c.most-nodes.ensures))
+    (λ c. let k = most_few _ c.requires.entered.few in omega (arith, k, c.most_nodes-end.ensures))
     -- loop-holds
     (λ c. refl)
     -- size-found-requires
     (λ c κs.
-    let after_most_nodes = most_nodes_of_in_loop c in
-    let p = (start_of_most_nodes after_most_nodes).pre in
+    let p = c.requires in
     let k = most_few _ p.entered.few in
-    (p, omega (arith, k, after_most_nodes.most-nodes.ensures, c.loop-test.true)))
+    (p, omega (arith, k, c.most_nodes-end.ensures, c.loop-m-test.true)))
     -- returns
     (λ c.
-    let in_loop = in_loop_of_then1 c in let after_most_nodes = most_nodes_of_in_loop in_loop in
-    let p = (start_of_most_nodes after_most_nodes).pre in
-    let sizes = heap_sizes _ _ (after_most_nodes.most-nodes.ensures ∙ ap most_nodes p.entered.laid.term_count_lem) in
-    let there = keep-true _ c.if1.true in
-    there ∙ sym (sizes ∙ in_loop.before.loop.inv ∙ first_here _ _ _ _ in_loop.loop-test.taken (sym c.before.size-found.ensures ∙ there)))
+    let p = c.requires in
+    let sizes = heap_sizes _ _ (c.most_nodes-end.ensures ∙ ap most_nodes p.entered.laid.term_count_lem) in
+    let there = keep-true _ c.if-r.true in
+    there ∙ sym (sizes ∙ c.loop-m.invariant ∙ first_here _ _ _ _ c.loop-m-test.true (sym c.size_found-r.ensures ∙ there)))
     -- add-m
     (λ c.
-    let in_loop = in_loop_of_else1 c in let after_most_nodes = most_nodes_of_in_loop in_loop in
-    let k = most_few _ (start_of_most_nodes after_most_nodes).pre.entered.few in
-    omega (arith, k, after_most_nodes.most-nodes.ensures, in_loop.loop-test.taken))
+    let k = most_few _ c.requires.entered.few in
+    omega (arith, k, c.most_nodes-end.ensures, c.loop-m-test.true))
     -- loop-less
     (λ c. omega arith)
     -- loop-again
     (λ c.
-    let in_loop = in_loop_of_else1 c in
-    in_loop.before.loop.inv ∙ first_next _ _ _ in_loop.loop-test.taken (sym c.before.size-found.ensures ∙ keep-false _ c.if1.false))
+    c.loop-m.invariant ∙ first_next _ _ _ c.loop-m-test.true (sym c.size_found-r.ensures ∙ keep-false _ c.if-r.false))
     -- returns-2
     (λ c.
-    let after_most_nodes = most_nodes_of_loop c in
-    let p = (start_of_most_nodes after_most_nodes).pre in
-    let sizes = heap_sizes _ _ (after_most_nodes.most-nodes.ensures ∙ ap most_nodes p.entered.laid.term_count_lem) in
-    keep-false _ refl ∙ sym (sizes ∙ c.before.loop.invariant ∙ first_end _ _ _ c.loop-test.false)))
+    let p = c.requires in
+    let sizes = heap_sizes _ _ (c.most_nodes-end.ensures ∙ ap most_nodes p.entered.laid.term_count_lem) in
+    keep-false _ refl ∙ sym (sizes ∙ c.loop-m.invariant ∙ first_end _ _ _ c.loop-m-test.false)))

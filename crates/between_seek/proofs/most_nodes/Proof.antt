@@ -8,6 +8,6 @@ most_nodes_spec =
     tie.close
     (tie.spec
     -- returns
-    (λ c. most_one _ c.if1.true)
+    (λ c. most_one _ c.if-n-eq0.true)
     -- returns-2
-    (λ c. most_all _ c.if1.false))
+    (λ c. most_all _ c.if-n-eq0.false))

@@ -9,38 +9,28 @@ use Rattle.between_seek.proofs.Linking.{nodes-first}
 use Rattle.between_seek.proofs.nodes_found.Statement.{statement}
 use Rattle.between_seek.proofs.nodes_found.Tie as tie
 
--- The places that lie behind a place.
-
-abbrev start_of_links : tie.After-links → tie.Start
-start_of_links c = c.before.before.before
-
-abbrev start_of_struct_known : tie.After-struct-known → tie.Start
-start_of_struct_known c = start_of_links c.before.before
-
 pub nodes_found_spec : {M : Type 1} → statement M
 nodes_found_spec =
     tie.close
     (tie.spec
     -- step-table-requires
-    (λ c κs. (start_of_links c).requires.1)
+    (λ c κs. c.requires.1)
     -- cast-nodes
-    (λ c. omega (arith, (start_of_struct_known c).requires.0.given.entered.few))
+    (λ c. omega (arith, c.requires.0.given.entered.few))
     -- array-write-nodes
     (λ c. omega arith)
     -- seek-nodes-requires
     (λ c κs.
-    let start = start_of_struct_known c in
-    let p = start.pre in (
+    let p = c.requires in (
       p.0,
       record {
         small_links = p.1;
-        small_nodes = small_set (replicate 17 0) 0 start.args.q.l.terms p.0.given.entered.few small_zeros;
-        stepped = c.before.step-table.ensures;
+        small_nodes = small_set (replicate 17 0) 0 c.args.q.l.terms p.0.given.entered.few small_zeros;
+        stepped = c.step_table-steps.ensures;
       },
       record { low = omega arith; high = omega arith; links_chosen = p.2; nodes_chosen = chosen_first _ },
     ))
     -- returns
     (λ c.
-    let start = start_of_struct_known c.before in
-    let a = start.args in
-    c.seek-nodes.ensures ∙ nodes-first (query_in a.base.now a.between.now) a.q _ _ start.pre.0.given.entered.laid.term_count_lem))
+    let a = c.args in
+    c.seek_nodes.ensures ∙ nodes-first (query_in a.base.now a.between.now) a.q _ _ c.requires.0.given.entered.laid.term_count_lem))

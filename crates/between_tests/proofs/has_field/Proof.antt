@@ -11,41 +11,31 @@ use Rattle.between_search.specs.Tests.{says_field, has_field}
 use Rattle.between_tests.specs.Tables.{literals_in}
 use Rattle.between_tests.proofs.Laws.{field_begin}
 
-abbrev invariant-loop : tie.invariant-loop
-invariant-loop query at count sign j t i₀ i = has_field (literals_in query at count) sign j t.0 ≡ any (says_field sign j t.0) (listed (literal_in query at) count i)
+abbrev invariant-loop-i : tie.invariant-loop-i
+invariant-loop-i query at count sign j t i₀ i = has_field (literals_in query at count) sign j t.0 ≡ any (says_field sign j t.0) (listed (literal_in query at) count i)
 
-abbrev decreases-loop : tie.decreases-loop
-decreases-loop query at count sign j t i₀ i = count - i
-
--- The places that lie behind a place.
-
-abbrev in_loop_of_else1 : tie.Else1 invariant-loop decreases-loop → tie.In-loop invariant-loop decreases-loop
-in_loop_of_else1 c = c.before.before
-
-abbrev in_loop_of_then1 : tie.Then1 invariant-loop decreases-loop → tie.In-loop invariant-loop decreases-loop
-in_loop_of_then1 c = c.before.before
+abbrev decreases-loop-i : tie.decreases-loop-i
+decreases-loop-i query at count sign j t i₀ i = count - i
 
 pub has_field_spec : {M : Type 1} → statement M
 has_field_spec =
     tie.close
     (tie.spec
-    invariant-loop
-    decreases-loop
+    invariant-loop-i
+    decreases-loop-i
     -- loop-holds
-    (λ c. field_begin _ _ _ c.before.requires _ _ _)
+    (λ c. field_begin _ _ _ c.requires _ _ _)
     -- says-field-requires
     (λ c κs. omega arith)
     -- returns
     (λ c.
-    let in_loop = in_loop_of_then1 c in
-    sym (in_loop.before.loop.inv ∙ any-listed_here _ _ _ _ in_loop.loop-test.taken (sym c.before.says-field.ensures ∙ c.if1.true)))
+    sym (c.loop-i.invariant ∙ any-listed_here _ _ _ _ c.loop-i-test.true (sym c.says_field.ensures ∙ c.if-says_field.true)))
     -- add-i
     (λ c. omega arith)
     -- loop-less
     (λ c. omega arith)
     -- loop-again
     (λ c.
-    let in_loop = in_loop_of_else1 c in
-    in_loop.before.loop.inv ∙ any-listed_next _ _ _ _ in_loop.loop-test.taken (sym c.before.says-field.ensures ∙ c.if1.false))
+    c.loop-i.invariant ∙ any-listed_next _ _ _ _ c.loop-i-test.true (sym c.says_field.ensures ∙ c.if-says_field.false))
     -- returns-2
-    (λ c. sym (c.before.loop.invariant ∙ any-listed_end _ _ _ _ c.loop-test.false)))
+    (λ c. sym (c.loop-i.invariant ∙ any-listed_end _ _ _ _ c.loop-i-test.false)))

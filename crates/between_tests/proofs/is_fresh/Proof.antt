@@ -12,41 +12,34 @@ use Rattle.rows.proofs.Selections.{any_end, any_here, any_next}
 use Rattle.between_search.specs.Search.{entry}
 use Rattle.between_tests.proofs.Laws.{node-read, fresh_is}
 
-abbrev invariant-loop : tie.invariant-loop
-invariant-loop nodes v end u₀ u = any (λ x. eqb (entry nodes x) v.0) (from (end - 1) 1) ≡ any (λ x. eqb (entry nodes x) v.0) (from (end - u) u)
+abbrev invariant-loop-u : tie.invariant-loop-u
+invariant-loop-u nodes v end u₀ u = any (λ x. eqb (entry nodes x) v.0) (from (end - 1) 1) ≡ any (λ x. eqb (entry nodes x) v.0) (from (end - u) u)
 
-abbrev decreases-loop : tie.decreases-loop
-decreases-loop nodes v end u₀ u = end - u
-
--- The places that lie behind a place.
-
-abbrev node_of2_of_struct_known2 : tie.After-struct-known2 invariant-loop decreases-loop → tie.After-node-of2 invariant-loop decreases-loop
-node_of2_of_struct_known2 c = c.before.before
+abbrev decreases-loop-u : tie.decreases-loop-u
+decreases-loop-u nodes v end u₀ u = end - u
 
 pub is_fresh_spec : {M : Type 1} → statement M
 is_fresh_spec =
     tie.close
     (tie.spec
-    invariant-loop
-    decreases-loop
+    invariant-loop-u
+    decreases-loop-u
     -- node-of-requires
     (λ c κs. omega arith)
     -- loop-holds
     (λ c. refl)
     -- node-of-requires-2
-    (λ c κs. omega (arith, c.before.before.before.requires.1, c.loop-test.true))
+    (λ c κs. omega (arith, c.requires.1, c.loop-u-test.true))
     -- returns
     (λ c.
-    let after_node_of2 = node_of2_of_struct_known2 c.before in let in_loop = after_node_of2.before in let at_loop = in_loop.before in
-    fresh_is _ _ _ true (node-read _ _ _ at_loop.before.node-of.ensures)
-    (at_loop.loop.inv ∙ any_here _ _ _ in_loop.loop-test.taken (eq-eqb _ _ (sym (node-read _ _ _ after_node_of2.node-of2.ensures) ∙ c.if1.true))))
+    fresh_is _ _ _ true (node-read _ _ _ c.node_of-v.ensures)
+    (c.loop-u.invariant ∙ any_here _ _ _ c.loop-u-test.true (eq-eqb _ _ (sym (node-read _ _ _ c.node_of-w.ensures) ∙ c.if-w-v.true))))
     -- add-u
     (λ c. omega arith)
     -- loop-less
     (λ c. omega arith)
     -- loop-again
     (λ c.
-    let after_node_of2 = node_of2_of_struct_known2 c.before in let in_loop = after_node_of2.before in
-    in_loop.before.loop.inv ∙ any_next _ _ _ in_loop.loop-test.taken (ne_eqb _ _ (λ e. c.if1.false ((node-read _ _ _ after_node_of2.node-of2.ensures) ∙ e))))
+    c.loop-u.invariant ∙ any_next _ _ _ c.loop-u-test.true (ne_eqb _ _ (λ e. c.if-w-v.false ((node-read _ _ _ c.node_of-w.ensures) ∙ e))))
     -- returns-2
-    (λ c. fresh_is _ _ _ false (node-read _ _ _ c.before.before.node-of.ensures) (c.before.loop.invariant ∙ any_end _ _ _ c.loop-test.false)))
+    (λ c. fresh_is _ _ _ false (node-read _ _ _ c.node_of-v.ensures) (c.loop-u.invariant ∙ any_end _ _ _ c.loop-u-test.false)))

@@ -13,9 +13,7 @@ is_nil_spec =
     (tie.spec
     -- byte-at-requires
     (λ c κs.
-    let start = c.before in
-    omega (arith, start.requires.0.entries_fit, start.requires.2))
+    omega (arith, c.requires.0.entries_fit, c.requires.2))
     -- returns
     (λ c.
-    let start = c.before.before in
-    ap (λ (x : ℕ). eqb x 255) c.byte_at.ensures ∙ nil_is _ _ start.requires.0 _ start.requires.1 start.requires.2))
+    ap (λ (x : ℕ). eqb x 255) c.byte_at.ensures ∙ nil_is _ _ c.requires.0 _ c.requires.1 c.requires.2))

@@ -12,45 +12,34 @@ use Rattle.between_search.specs.Search.{entry}
 use Rattle.between_tests.specs.Tables.{Stepped, literals_in}
 use Rattle.between_tests.proofs.Laws.{literals_begin}
 
-abbrev invariant-loop : tie.invariant-loop
-invariant-loop query at count most table nodes t i₀ i =
+abbrev invariant-loop-i : tie.invariant-loop-i
+invariant-loop-i query at count most table nodes t i₀ i =
     (link : ℕ → ℕ) → Stepped table link → any (pair_breaks link (entry nodes) most t.0) (literals_in query at count) ≡ any
     (pair_breaks link (entry nodes) most t.0) (listed (literal_in query at) count i)
 
-abbrev decreases-loop : tie.decreases-loop
-decreases-loop query at count most table nodes t i₀ i = count - i
-
--- The places that lie behind a place.
-
-abbrev in_loop_of_else1 : tie.Else1 invariant-loop decreases-loop → tie.In-loop invariant-loop decreases-loop
-in_loop_of_else1 c = c.before.before
-
-abbrev in_loop_of_then1 : tie.Then1 invariant-loop decreases-loop → tie.In-loop invariant-loop decreases-loop
-in_loop_of_then1 c = c.before.before
+abbrev decreases-loop-i : tie.decreases-loop-i
+decreases-loop-i query at count most table nodes t i₀ i = count - i
 
 pub pairs_break_spec : {M : Type 1} → statement M
 pairs_break_spec =
     tie.close
     (tie.spec
-    invariant-loop
-    decreases-loop
+    invariant-loop-i
+    decreases-loop-i
     -- loop-holds
-    (λ c link s. literals_begin _ _ _ c.before.requires.0 _)
+    (λ c link s. literals_begin _ _ _ c.requires.0 _)
     -- pair-breaks-requires
     (λ c κs.
-    let start = c.before.before.before in
-    (omega (arith, start.requires.0, c.loop-test.true), start.requires.1, start.requires.2))
+    (omega (arith, c.requires.0, c.loop-i-test.true), c.requires.1, c.requires.2))
     -- returns
     (λ c link s.
-    let in_loop = in_loop_of_then1 c in
-    sym (in_loop.before.loop.inv link s ∙ any-listed_here _ _ _ _ in_loop.loop-test.taken (sym (c.before.pair-breaks.ensures link s) ∙ c.if1.true)))
+    sym (c.loop-i.invariant link s ∙ any-listed_here _ _ _ _ c.loop-i-test.true (sym (c.pair_breaks.ensures link s) ∙ c.if-pair_breaks.true)))
     -- add-i
     (λ c. omega arith)
     -- loop-less
     (λ c. omega arith)
     -- loop-again
     (λ c link s.
-    let in_loop = in_loop_of_else1 c in
-    in_loop.before.loop.inv link s ∙ any-listed_next _ _ _ _ in_loop.loop-test.taken (sym (c.before.pair-breaks.ensures link s) ∙ c.if1.false))
+    c.loop-i.invariant link s ∙ any-listed_next _ _ _ _ c.loop-i-test.true (sym (c.pair_breaks.ensures link s) ∙ c.if-pair_breaks.false))
     -- returns-2
-    (λ c link s. sym (c.before.loop.invariant link s ∙ any-listed_end _ _ _ _ c.loop-test.false)))
+    (λ c link s. sym (c.loop-i.invariant link s ∙ any-listed_end _ _ _ _ c.loop-i-test.false)))

@@ -12,44 +12,33 @@ use Rattle.between_search.specs.Search.{entry}
 use Rattle.between_tests.specs.Tables.{Stepped, triple_in}
 use Rattle.between_tests.proofs.Triples.{triples_are}
 
-abbrev invariant-loop : tie.invariant-loop
-invariant-loop bytes count table nodes t i₀ i =
+abbrev invariant-loop-i : tie.invariant-loop-i
+invariant-loop-i bytes count table nodes t i₀ i =
     (link : ℕ → ℕ) → Stepped table link → any (triple_breaks link (entry nodes) t.0) (triples bytes) ≡ any (triple_breaks link (entry nodes) t.0) (listed (triple_in bytes) count i)
 
-abbrev decreases-loop : tie.decreases-loop
-decreases-loop bytes count table nodes t i₀ i = count - i
-
--- The places that lie behind a place.
-
-abbrev in_loop_of_else1 : tie.Else1 invariant-loop decreases-loop → tie.In-loop invariant-loop decreases-loop
-in_loop_of_else1 c = c.before.before
-
-abbrev in_loop_of_then1 : tie.Then1 invariant-loop decreases-loop → tie.In-loop invariant-loop decreases-loop
-in_loop_of_then1 c = c.before.before
+abbrev decreases-loop-i : tie.decreases-loop-i
+decreases-loop-i bytes count table nodes t i₀ i = count - i
 
 pub triples_break_spec : {M : Type 1} → statement M
 triples_break_spec =
     tie.close
     (tie.spec
-    invariant-loop
-    decreases-loop
+    invariant-loop-i
+    decreases-loop-i
     -- loop-holds
-    (λ c link s. ap (any _) (triples_are _ _ c.before.requires.0))
+    (λ c link s. ap (any _) (triples_are _ _ c.requires.0))
     -- triple-breaks-requires
     (λ c κs.
-    let start = c.before.before.before in
-    (omega (arith, start.requires.0, c.loop-test.true), start.requires.1, start.requires.2))
+    (omega (arith, c.requires.0, c.loop-i-test.true), c.requires.1, c.requires.2))
     -- returns
     (λ c link s.
-    let in_loop = in_loop_of_then1 c in
-    sym (in_loop.before.loop.inv link s ∙ any-listed_here _ _ _ _ in_loop.loop-test.taken (sym (c.before.triple-breaks.ensures link s) ∙ c.if1.true)))
+    sym (c.loop-i.invariant link s ∙ any-listed_here _ _ _ _ c.loop-i-test.true (sym (c.triple_breaks.ensures link s) ∙ c.if-triple_breaks.true)))
     -- add-i
     (λ c. omega arith)
     -- loop-less
     (λ c. omega arith)
     -- loop-again
     (λ c link s.
-    let in_loop = in_loop_of_else1 c in
-    in_loop.before.loop.inv link s ∙ any-listed_next _ _ _ _ in_loop.loop-test.taken (sym (c.before.triple-breaks.ensures link s) ∙ c.if1.false))
+    c.loop-i.invariant link s ∙ any-listed_next _ _ _ _ c.loop-i-test.true (sym (c.triple_breaks.ensures link s) ∙ c.if-triple_breaks.false))
     -- returns-2
-    (λ c link s. sym (c.before.loop.invariant link s ∙ any-listed_end _ _ _ _ c.loop-test.false)))
+    (λ c link s. sym (c.loop-i.invariant link s ∙ any-listed_end _ _ _ _ c.loop-i-test.false)))

@@ -10,49 +10,38 @@ use Rattle.between_search.specs.Tests.{used}
 use Rattle.between_search.specs.Search.{entry}
 use Rattle.between_tests.proofs.Laws.{used-none, used_more}
 
-abbrev invariant-loop : tie.invariant-loop
-invariant-loop nodes end count₀ u₀ count u = (u ≤ end) × (count ≤ u) × (count ≡ used (entry nodes) u)
+abbrev invariant-loop-u : tie.invariant-loop-u
+invariant-loop-u nodes end count₀ u₀ count u = (u ≤ end) × (count ≤ u) × (count ≡ used (entry nodes) u)
 
-abbrev decreases-loop : tie.decreases-loop
-decreases-loop nodes end count₀ u₀ count u = end - u
-
--- The places that lie behind a place.
-
-abbrev in_loop_of_one : tie.After-one invariant-loop decreases-loop → tie.In-loop invariant-loop decreases-loop
-in_loop_of_one c = c.before.before
-
-abbrev at_loop_of_one : tie.After-one invariant-loop decreases-loop → tie.At-loop invariant-loop decreases-loop
-at_loop_of_one c = (in_loop_of_one c).before
+abbrev decreases-loop-u : tie.decreases-loop-u
+decreases-loop-u nodes end count₀ u₀ count u = end - u
 
 pub used_spec : {M : Type 1} → statement M
 used_spec =
     tie.close
     (tie.spec
-    invariant-loop
-    decreases-loop
+    invariant-loop-u
+    decreases-loop-u
     -- loop-holds
     (λ c. (omega arith, omega arith, used-none _))
     -- add-u
     (λ c. omega arith)
     -- is-fresh-requires
-    (λ c κs. (omega arith, omega (arith, c.before.before.requires, c.loop-test.true)))
+    (λ c κs. (omega arith, omega (arith, c.requires, c.loop-u-test.true)))
     -- one-requires
     (λ c κs. search rules)
     -- add-count
     (λ c.
-    let at_loop = at_loop_of_one c in
-    omega (arith, c.one.ensures.1, at_loop.loop.inv.1, at_loop.loop.inv.0, at_loop.before.pre))
+    omega (arith, c.one-count.ensures.1, c.loop-u.invariant.1, c.loop-u.invariant.0, c.requires))
     -- loop-less
-    (λ c. omega (arith, (in_loop_of_one c).loop-test.true))
+    (λ c. omega (arith, c.loop-u-test.true))
     -- loop-again
-    (λ c.
-    let at_loop = at_loop_of_one c in (
-      omega (arith, (in_loop_of_one c).loop-test.true),
-      omega (arith, c.one.ensures.1, at_loop.loop.inv.1),
-      used_more _ _ _ _ at_loop.loop.inv.2 (c.one.ensures.0 ∙ ap (λ (b : Bool). cond b 1 0) c.before.is-fresh.ensures),
+    (λ c. (
+      omega (arith, c.loop-u-test.true),
+      omega (arith, c.one-count.ensures.1, c.loop-u.invariant.1),
+      used_more _ _ _ _ c.loop-u.invariant.2 (c.one-count.ensures.0 ∙ ap (λ (b : Bool). cond b 1 0) c.is_fresh.ensures),
     ))
     -- returns
     (λ c.
-    let at_loop = c.before in let start = at_loop.before in
-    let e : at_loop.loop.u ≡ start.args.t.0 = omega (arith, at_loop.loop.invariant.0, c.loop-test.false) in
-    (at_loop.loop.invariant.2 ∙ ap (used (entry start.args.nodes.now)) e, omega (arith, at_loop.loop.invariant.0, at_loop.loop.invariant.1, start.requires))))
+    let e : c.loop-u.u ≡ c.args.t.0 = omega (arith, c.loop-u.invariant.0, c.loop-u-test.false) in
+    (c.loop-u.invariant.2 ∙ ap (used (entry c.args.nodes.now)) e, omega (arith, c.loop-u.invariant.0, c.loop-u.invariant.1, c.requires))))

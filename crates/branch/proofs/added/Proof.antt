@@ -14,17 +14,15 @@ added_spec =
     (λ c. search rules)
     -- equated-requires
     (λ c κs.
-    let start = c.before.before.before in
-    let h = subst InRange c.before.fact.given.1 start.requires.2 in (start.requires.0, h.0, h.1))
+    let h = subst InRange c.in-Equal.is c.requires.2 in (c.requires.0, h.0, h.1))
     -- enum-known-fact-2
     (λ c. search rules)
     -- add-reach-requires
     (λ c κs.
-    let start = c.before.before.before in
-    let h = subst InRange c.before.fact2.given.1 start.requires.2 in (start.requires.1, h.0, h.1))
+    let h = subst InRange c.in-Reaches.is c.requires.2 in (c.requires.1, h.0, h.1))
     -- no-pairs-requires
     (λ c κs. search rules)
     -- returns
-    (λ c. added_equal _ _ _ _ _ _ _ c.before.before.fact.given.1 c.equated.ensures)
+    (λ c. added_equal _ _ _ _ _ _ _ c.in-Equal.is c.equated.ensures)
     -- returns-2
-    (λ c. added_reaches _ _ _ _ _ _ _ _ c.before.before.before.fact2.given.1 c.no_pairs.ensures c.before.add-reach.ensures))
+    (λ c. added_reaches _ _ _ _ _ _ _ _ c.in-Reaches.is c.no_pairs.ensures c.add_reach-reached.ensures))

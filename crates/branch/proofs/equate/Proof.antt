@@ -8,20 +8,14 @@ use Rattle.branch.proofs.Steps.{alone_fits, join_alone}
 use Rattle.branch.proofs.equate.Statement.{statement}
 use Rattle.branch.proofs.equate.Tie as tie
 
--- The places that lie behind a place.
-
-abbrev start_of_replaced : tie.After-replaced → tie.Start
-start_of_replaced c = c.before.before.before.before.before
-
 pub equate_spec : {M : Type 1} → statement M
 equate_spec =
     tie.close
     (tie.spec
     -- join-requires
     (λ c κs.
-    let start = start_of_replaced c in
-    let p = start.pre in
-    let a = start.args in (
+    let p = c.requires in
+    let a = c.args in (
       (
         p.0,
         p.1,
@@ -33,7 +27,7 @@ equate_spec =
     ))
     -- returns
     (λ c.
-    let a = (start_of_replaced c.before).args in (
+    let a = c.args in (
       ap (λ (j : Joined). j.facts) (join_alone (replicate 17 0) (replicate 17 0) a.n a.a.0 a.b.0
           (path_as a.single a.rep.now a.link.now a.reach.now) _ c.join.ensures.0),
       c.join.ensures.1.0,

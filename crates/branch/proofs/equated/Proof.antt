@@ -10,18 +10,12 @@ use Rattle.branch.proofs.Steps.{alone_fits}
 use Rattle.branch.proofs.equated.Statement.{statement}
 use Rattle.branch.proofs.equated.Tie as tie
 
--- The places that lie behind a place.
-
-abbrev start_of_replaced : tie.After-replaced → tie.Start
-start_of_replaced c = c.before.before.before.before.before.before.before.before
-
 -- join-requires
-join_requires : tie.Need-join-requires
+join_requires : tie.Need-join-count-requires
 unfolding path_of
 join_requires c κs =
-    let start = start_of_replaced c in
-    let p = start.pre in
-    let a = start.args in (
+    let p = c.requires in
+    let a = c.args in (
       (p.0, p.1, p.2, alone_fits (replicate 17 0) (replicate 17 0) a.n a.a.0 a.b.0 (path_of a.s) p.0),
       (record { of_rep = search rules; of_link = search rules; of_reach = search rules }, search rules, search rules),
     )
@@ -30,8 +24,10 @@ join_requires c κs =
 returns : tie.Need-returns
 unfolding path_of pairs_of
 returns c =
-    let a = (start_of_replaced c.before).args in
-    c.join.ensures.0 ∙ none_before (replicate 17 0) (replicate 17 0) (path_of a.s) (join a.n a.a.0 a.b.0)
+    let a = c.args in
+    c.join-count.ensures.0 ∙ none_before (replicate 17 0) (replicate 17 0) (path_of a.s) (join a.n a.a.0 a.b.0)
 
 pub equated_spec : {M : Type 1} → statement M
-equated_spec = tie.close (tie.spec join_requires returns)
+equated_spec = tie.close (tie.spec
+    join_requires
+    returns)

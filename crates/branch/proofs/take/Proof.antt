@@ -11,68 +11,43 @@ use Rattle.branch.proofs.Steps.{taken_equal, taken_reaches}
 use Rattle.branch.proofs.take.Statement.{statement}
 use Rattle.branch.proofs.take.Tie as tie
 
--- The places that lie behind a place.
-
-abbrev a2_of_add_arg : tie.After-add-arg → tie.After-a2
-a2_of_add_arg c = c.before.before
-
-abbrev start_of_alternative : tie.After-alternative → tie.Start
-start_of_alternative c = c.before.before
-
-abbrev alternative_of_a : tie.After-a → tie.After-alternative
-alternative_of_a c = c.before.before
-
-abbrev alternative_of_a2 : tie.After-a2 → tie.After-alternative
-alternative_of_a2 c = c.before.before
-
-abbrev a_of_equate_arg3 : tie.After-equate-arg3 → tie.After-a
-a_of_equate_arg3 c = c.before.before.before.before
-
 pub take_spec : {M : Type 1} → statement M
 take_spec =
     tie.close
     (tie.spec
     -- alternative-requires
     (λ c κs.
-    let start = c.before in
-    let p = start.requires in (p.0, p.1.0, omega (arith, p.1.1, (links_few start.args.single).1), p.2, p.3, p.4))
+    let p = c.requires in (p.0, p.1.0, omega (arith, p.1.1, (links_few c.args.single).1), p.2, p.3, p.4))
     -- enum-known-a
     (λ c. search rules)
     -- equate-requires
     (λ c κs.
-    let after_a = a_of_equate_arg3 c in let after_alternative = alternative_of_a after_a in
-    let p = (start_of_alternative after_alternative).pre in let h = subst InRange after_a.a.given.1 after_alternative.alternative.ensures.1 in (p.0, h.0, h.1, p.5))
+    let p = c.requires in let h = subst InRange c.in-Equal.is c.alternative.ensures.1 in (p.0, h.0, h.1, p.5))
     -- enum-known-a-2
     (λ c. search rules)
     -- add-requires
     (λ c κs.
-    let after_a2 = a2_of_add_arg c in let after_alternative = alternative_of_a2 after_a2 in
-    let start = start_of_alternative after_alternative in
-    let p = start.pre in
+    let p = c.requires in
     let w = p.5 in
-    let h = subst InRange after_a2.a2.given.1 after_alternative.alternative.ensures.1 in
-    (p.1.0, omega (arith, p.1.1, (links_few start.args.single).1), h.0, h.1, w.of_reach))
+    let h = subst InRange c.in-Reaches.is c.alternative.ensures.1 in
+    (p.1.0, omega (arith, p.1.1, (links_few c.args.single).1), h.0, h.1, w.of_reach))
     -- returns
     (λ c.
-    let after_a = a_of_equate_arg3 c.before in let after_alternative = alternative_of_a after_a in
-    let start = start_of_alternative after_alternative in
-    let a = start.args in (
+    let a = c.args in (
       taken_equal a.k.0 a.n (path_as a.single a.rep.now a.link.now a.reach.now) _ _
-          (after_alternative.alternative.ensures.0 ∙ alternative_path a.k.0 a.n a.single a.link.now a.reach.now start.pre.1.1
-          (kind_of a.rule) a.x.0 a.y.0 a.z.0 a.i) _ _ _ after_a.a.given.1 c.equate.ensures.0,
+          (c.alternative.ensures.0 ∙ alternative_path a.k.0 a.n a.single a.link.now a.reach.now c.requires.1.1
+          (kind_of a.rule) a.x.0 a.y.0 a.z.0 a.i) _ _ _ c.in-Equal.is c.equate.ensures.0,
       c.equate.ensures.1,
     ))
     -- returns-2
     (λ c.
-    let after_a2 = a2_of_add_arg c.before in let after_alternative = alternative_of_a2 after_a2 in
-    let start = start_of_alternative after_alternative in
-    let p = start.pre in
+    let p = c.requires in
     let w = p.5 in
-    let a = start.args in
+    let a = c.args in
     let r = c.add.ensures in (
       taken_reaches a.k.0 a.n (path_as a.single a.rep.now a.link.now a.reach.now) _ _
-          (after_alternative.alternative.ensures.0 ∙ alternative_path a.k.0 a.n a.single a.link.now a.reach.now p.1.1
-          (kind_of a.rule) a.x.0 a.y.0 a.z.0 a.i) _ _ _ after_a2.a2.given.1
+          (c.alternative.ensures.0 ∙ alternative_path a.k.0 a.n a.single a.link.now a.reach.now p.1.1
+          (kind_of a.rule) a.x.0 a.y.0 a.z.0 a.i) _ _ _ c.in-Reaches.is
           (add_reach_rows a.single a.rep.now a.link.now a.reach.now _ _ _ _ p.1.1 r.0),
       record { of_rep = w.of_rep; of_link = w.of_link; of_reach = r.1 },
     )))

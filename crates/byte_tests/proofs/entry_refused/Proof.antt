@@ -14,4 +14,4 @@ entry_refused_spec =
     -- entry-allowed-requires
     (λ c κs. search rules)
     -- returns
-    (λ c. rw c.entry-allowed.ensures))
+    (λ c. rw c.entry_allowed-allowed.ensures))

@@ -11,8 +11,8 @@ may_precede_spec =
     tie.close
     (tie.spec
     -- returns
-    (λ c. rw c.if1.true)
+    (λ c. rw c.if-byte.true)
     -- is-link-requires
     (λ c κs. search rules)
     -- returns-2
-    (λ c. rw c.before.if1.false c.is-link.ensures))
+    (λ c. rw c.before.if-byte.false c.is_link.ensures))

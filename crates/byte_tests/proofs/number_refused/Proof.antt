@@ -13,4 +13,4 @@ number_refused_spec =
     -- number-allowed-requires
     (λ c κs. search rules)
     -- returns
-    (λ c. rw c.number-allowed.ensures))
+    (λ c. rw c.number_allowed-allowed.ensures))

@@ -14,4 +14,4 @@ sign_refused_spec =
     -- sign-allowed-requires
     (λ c κs. search rules)
     -- returns
-    (λ c. rw c.sign-allowed.ensures))
+    (λ c. rw c.sign_allowed-allowed.ensures))

@@ -13,35 +13,31 @@ put_answer_spec =
     (tie.spec
     -- enum_told
     (λ c. search rules)
-    -- slice-aggregate-put-bytes
-    (λ c. search rules)
     -- put-bytes-requires
     (λ c κs. search rules)
     -- enum-known-answer
     (λ c. search rules)
-    -- slice-aggregate-put-bytes-2
-    (λ c. search rules)
     -- put-bytes-requires-2
     (λ c κs. search rules)
     -- put-decimal-requires
-    (λ c κs. omega (arith, c.before.before.before.put-bytes2.ensures.ends))
+    (λ c κs. omega (arith, c.put_bytes-number.ensures.ends))
     -- put-byte-requires
-    (λ c κs. omega (arith, c.before.before.before.before.before.before.before.put-bytes2.ensures.ends, c.before.before.before.put-decimal.ensures.ends, decimal_machine c.before.before.before.before.before.before.before.before.before.before.before.answer.given.0.0 (omega arith)))
+    (λ c κs. omega (arith, c.put_bytes-number.ensures.ends, c.put_decimal-end.ensures.ends, decimal_machine c.in-Wrong.k (omega arith)))
     -- enum-known-answer-2
     (λ c. search rules)
     -- put-refused-requires
     (λ c κs. search rules)
     -- put-byte-requires-2
-    (λ c κs. omega (arith, c.before.before.before.Put-refused.ensures.1))
+    (λ c κs. omega (arith, c.put_refused-end.ensures.1))
     -- same-length
     (λ c. search rules)
     -- returns
-    (λ c. (writes_as (accepted_words _ c.before.before.before.before.before.enum_told.given.1) c.before.before.put-bytes.ensures, omega (arith, c.before.before.put-bytes.ensures.ends)))
+    (λ c. (writes_as (accepted_words _ c.in-Accepted.is) c.put_bytes.ensures, omega (arith, c.put_bytes.ensures.ends)))
     -- same-length-2
     (λ c. search rules)
     -- returns-2
-    (λ c. (writes_as (wrong_words _ _ c.before.before.before.before.before.before.before.before.before.before.before.before.before.before.answer.given.1) (writes_then c.before.before.before.before.before.before.before.before.before.before.put-bytes2.ensures (writes_then c.before.before.before.before.before.before.put-decimal.ensures c.before.before.put_byte.ensures)), omega (arith, c.before.before.before.before.before.before.before.before.before.before.put-bytes2.ensures.ends, c.before.before.before.before.before.before.put-decimal.ensures.ends, decimal_machine c.before.before.before.before.before.before.before.before.before.before.before.before.before.before.answer.given.0.0 (omega arith), c.before.before.put_byte.ensures.ends)))
+    (λ c. (writes_as (wrong_words _ _ c.in-Wrong.is) (writes_then c.put_bytes-number.ensures (writes_then c.put_decimal-end.ensures c.put_byte.ensures)), omega (arith, c.put_bytes-number.ensures.ends, c.put_decimal-end.ensures.ends, decimal_machine c.in-Wrong.k (omega arith), c.put_byte.ensures.ends)))
     -- same-length-3
     (λ c. search rules)
     -- returns-3
-    (λ c. (writes_as (refused_words _ _ _ c.before.before.before.before.before.before.before.before.before.answer2.given.1) (writes_then c.before.before.before.before.before.before.Put-refused.ensures.0 c.before.before.put-byte2.ensures), omega (arith, c.before.before.before.before.before.before.Put-refused.ensures.1, c.before.before.put-byte2.ensures.ends))))
+    (λ c. (writes_as (refused_words _ _ _ c.in-Refused.is) (writes_then c.put_refused-end.ensures.0 c.put_byte-in-Refused.ensures), omega (arith, c.put_refused-end.ensures.1, c.put_byte-in-Refused.ensures.ends))))

@@ -17,4 +17,4 @@ put_checked_spec =
     -- same-length
     (λ c. search rules)
     -- returns
-    (λ c. (writes_as (ap checked_text c.before.before.before.answer.ensures) c.before.before.put-answer.ensures.0, c.before.before.put-answer.ensures.1)))
+    (λ c. (writes_as (ap checked_text c.answer.ensures) c.put_answer.ensures.0, c.put_answer.ensures.1)))

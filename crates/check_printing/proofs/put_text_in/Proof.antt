@@ -41,10 +41,6 @@ put_text_in_spec =
     (λ c. search rules)
     -- returns
     (λ c.
-    let c6 = c.before.before.before.before.before.before in
-    let c7 = c6.before in
-    let c8 = c7.before in
-    let c9 = c8.before in
-    let size = size_is _ c9.byte_at.ensures.0 c8.byte-at2.ensures.0 in
-    let put = c.before.before.put-checked.ensures in
-    (writes_as (input_read _ _ _ _ size c7.at_most.ensures c6.at-most2.ensures _) put.0, put.1)))
+    let size = size_is _ c.byte_at.ensures.0 c.byte_at-2.ensures.0 in
+    let put = c.put_checked.ensures in
+    (writes_as (input_read _ _ _ _ size c.at_most-from.ensures c.at_most-to.ensures _) put.0, put.1)))

@@ -10,11 +10,11 @@ read_text_spec =
     tie.close
     (tie.spec
     -- returns
-    (λ c. (omega arith, text_long _ c.if1.true))
+    (λ c. (omega arith, text_long _ c.if-text-gt256000.true))
     -- count-newlines-requires
     (λ c κs. search rules)
     -- returns-2
-    (λ c. (omega arith, text_many _ _ c.before.before.if1.false c.before.count-newlines.ensures c.if2.true))
+    (λ c. (omega arith, text_many _ _ c.if-text-gt256000.false c.count_newlines-count.ensures c.if-count-gt16000.true))
     -- cast-put-byte
     (λ c. omega arith)
     -- put-byte-requires
@@ -22,10 +22,10 @@ read_text_spec =
     -- cast-put-byte-2
     (λ c. omega arith)
     -- put-byte-requires-2
-    (λ c κs. omega (arith, c.before.before.before.put_byte.ensures.ends))
+    (λ c κs. omega (arith, c.put_byte-low.ensures.ends))
     -- put-numbers-requires
-    (λ c κs. (omega (arith, c.before.before.before.before.before.before.before.put_byte.ensures.ends, c.before.before.before.put-byte2.ensures.ends), c.before.before.before.before.before.before.before.before.before.before.before.if1.false))
+    (λ c κs. (omega (arith, c.put_byte-low.ensures.ends, c.put_byte-first.ensures.ends), c.if-text-gt256000.false))
     -- same-length
     (λ c. search rules)
     -- returns-3
-    (λ c. text-read _ _ c.before.before.before.before.before.before.before.before.before.before.before.before.before.before.if1.false c.before.before.before.before.before.before.before.before.before.before.before.before.before.count-newlines.ensures _ _ c.before.before.before.before.before.before.before.before.before.before.before.before.if2.false c.before.before.before.before.before.before.before.before.before.before.before.before.before.before.before.before.before.requires c.before.before.before.before.before.before.before.before.before.before.put_byte.ensures c.before.before.before.before.before.before.put-byte2.ensures c.before.before.put-numbers.ensures))
+    (λ c. text-read _ _ c.if-text-gt256000.false c.count_newlines-count.ensures _ _ c.if-count-gt16000.false c.requires c.put_byte-low.ensures c.put_byte-first.ensures c.put_numbers.ensures))

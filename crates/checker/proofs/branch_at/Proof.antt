@@ -13,11 +13,11 @@ branch_at_spec =
     -- held-requires
     (λ c κs. search rules)
     -- branch-requires
-    (λ c κs. let p = c.before.requires in (p.0, link_rows _ _ c.held.ensures _ p.1, p.2, p.3, p.4))
+    (λ c κs. let p = c.requires in (p.0, link_rows _ _ c.held-s.ensures _ p.1, p.2, p.3, p.4))
     -- spread-requires
     (λ c κs. search rules)
     -- returns
     (λ c.
-    let a = c.before.before.before.args in
+    let a = c.args in
     c.spread.ensures
-    ∙ branch-rows _ _ c.before.before.held.ensures a.n a.k.0 (kind_of a.rule) a.x.0 a.y.0 a.z.0 a.i _ c.before.branch.ensures))
+    ∙ branch-rows _ _ c.held-s.ensures a.n a.k.0 (kind_of a.rule) a.x.0 a.y.0 a.z.0 a.i _ c.branch-s.ensures))

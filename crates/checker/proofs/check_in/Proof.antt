@@ -25,24 +25,24 @@ check_in_spec =
     (λ c κs. search rules)
     -- returns
     (λ c.
-    let a = c.before.before.before.before.before.before.before.before.args in
+    let a = c.args in
     let f = form_of a.three in
-    let h = subst (λ (x : Checked). CheckedBy f x a.query.now) c.before.before.before.layout.given.1 c.before.before.before.before.before.checked.ensures in
-    call_misshapen f _ _ _ h (sym c.before.is-shaped.ensures ∙ not-true _ c.if1.true))
+    let h = subst (λ (x : Checked). CheckedBy f x a.query.now) c.in-Accepted.is c.checked.ensures in
+    call_misshapen f _ _ _ h (sym c.is_shaped.ensures ∙ c.if-not-is_shaped.true))
     -- judge-requires
     (λ c κs.
-    let a = c.before.before.before.before.before.before.before.before.args in
+    let a = c.args in
     let f = form_of a.three in
-    let h = subst (λ (x : Checked). CheckedBy f x a.query.now) c.before.before.before.layout.given.1 c.before.before.before.before.before.checked.ensures in
-    (h.within, accepted_said f (laws_of a.three) _ _ h, sym c.before.is-shaped.ensures ∙ not-false _ c.if1.false))
+    let h = subst (λ (x : Checked). CheckedBy f x a.query.now) c.in-Accepted.is c.checked.ensures in
+    (h.within, accepted_said f (laws_of a.three) _ _ h, sym c.is_shaped.ensures ∙ c.if-not-is_shaped.false))
     -- returns-2
     (λ c.
-    let a = c.before.before.before.before.before.before.args in
+    let a = c.args in
     let f = form_of a.three in
-    call_refused f _ _ _ _ (subst (λ (x : Checked). CheckedBy f x a.query.now) c.before.k.given.1 c.before.before.before.checked.ensures))
+    call_refused f _ _ _ _ (subst (λ (x : Checked). CheckedBy f x a.query.now) c.in-Refused.is c.checked.ensures))
     -- returns-3
     (λ c.
-    let a = c.before.before.before.before.before.before.before.before.before.args in
+    let a = c.args in
     let f = form_of a.three in
-    let h = subst (λ (x : Checked). CheckedBy f x a.query.now) c.before.before.before.before.layout.given.1 c.before.before.before.before.before.before.checked.ensures in
-    call_judged f _ _ _ h (sym c.before.before.is-shaped.ensures ∙ not-false _ c.before.if1.false) _ c.judge.ensures))
+    let h = subst (λ (x : Checked). CheckedBy f x a.query.now) c.in-Accepted.is c.checked.ensures in
+    call_judged f _ _ _ h (sym c.is_shaped.ensures ∙ c.if-not-is_shaped.false) _ c.judge.ensures))

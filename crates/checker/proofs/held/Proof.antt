@@ -6,4 +6,5 @@ use Rattle.checker.proofs.held.Tie as tie
 
 pub held_spec : {M : Type 1} → statement M
 unfolding path_of
-held_spec = tie.close (tie.spec (λ c. refl))
+held_spec = tie.close (tie.spec
+    (λ c. refl))

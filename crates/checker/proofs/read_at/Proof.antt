@@ -11,6 +11,6 @@ read_at_spec =
     -- held-requires
     (λ c κs. search rules)
     -- read-line-requires
-    (λ c κs. c.before.before.before.requires)
+    (λ c κs. c.requires)
     -- returns
-    (λ c. reading_rows _ _ c.before.held.ensures _ _ _ c.read-line.ensures))
+    (λ c. reading_rows _ _ c.held-s.ensures _ _ _ c.read_line.ensures))

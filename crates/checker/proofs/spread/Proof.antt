@@ -6,4 +6,5 @@ use Rattle.checker.proofs.spread.Tie as tie
 
 pub spread_spec : {M : Type 1} → statement M
 unfolding path_of
-spread_spec = tie.close (tie.spec (λ c. refl))
+spread_spec = tie.close (tie.spec
+    (λ c. refl))

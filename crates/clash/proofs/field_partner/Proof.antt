@@ -11,32 +11,23 @@ use Rattle.clash.proofs.Sections.{PartnerLeft, partner_begin, partner-plain, par
 use Rattle.clash.proofs.field_partner.Statement.{statement}
 use Rattle.clash.proofs.field_partner.Tie as tie
 
-abbrev invariant-loop : tie.invariant-loop
-invariant-loop query at count rep i field term j₀ j = PartnerLeft (literals_in query at count) count (same_field (rep_of rep)) (i + 1) j
+abbrev invariant-loop-j : tie.invariant-loop-j
+invariant-loop-j query at count rep i field term j₀ j = PartnerLeft (literals_in query at count) count (same_field (rep_of rep)) (i + 1) j
 
-abbrev decreases-loop : tie.decreases-loop
-decreases-loop query at count rep i field term j₀ j = count - j
-
--- The places that lie behind a place.
-
-abbrev start_of_sign : tie.After-sign invariant-loop decreases-loop → tie.Start invariant-loop decreases-loop
-start_of_sign c = c.before.before
-
-abbrev start_of_read_rep : tie.After-read-rep invariant-loop decreases-loop → tie.Start invariant-loop decreases-loop
-start_of_read_rep c = start_of_sign c.before.before.before.before
+abbrev decreases-loop-j : tie.decreases-loop-j
+decreases-loop-j query at count rep i field term j₀ j = count - j
 
 pub field_partner_spec : {M : Type 1} → statement M
 field_partner_spec =
     tie.close
     (tie.spec
-    invariant-loop
-    decreases-loop
+    invariant-loop-j
+    decreases-loop-j
     -- sign-requires
     (λ c κs. omega arith)
     -- returns
     (λ c.
-    let start = start_of_sign c.before in
-    sym (partner-plain _ _ _ (literals_are _ _ _ start.pre.0) _ _ start.pre.1 (sym c.before.sign.ensures ∙ c.if1.true)))
+    sym (partner-plain _ _ _ (literals_are _ _ _ c.requires.0) _ _ c.requires.1 (sym c.sign.ensures ∙ c.if-sign.true)))
     -- field-requires
     (λ c κs. omega arith)
     -- right-requires
@@ -45,39 +36,37 @@ field_partner_spec =
     (λ c κs. search rules)
     -- loop-holds
     (λ c.
-    let start = start_of_read_rep c in
-    partner_begin _ _ _ (literals_are _ _ _ start.pre.0) _ _ start.pre.1)
+    partner_begin _ _ _ (literals_are _ _ _ c.requires.0) _ _ c.requires.1)
     -- is-field-partner-requires
     (λ c κs. omega arith)
     -- add-t13
     (λ c. omega arith)
     -- returns-2
-    (λ c. sym (partner_here _ _ _ (literals_are _ _ _ c.before.before.before.before.before.before.before.before.before.before.requires.0) _ _
-    c.before.before.before.before.before.before.before.before.before.before.requires.1 _ c.before.before.loop-test.true
-    (sym c.before.before.before.before.before.before.before.before.sign.ensures
-    ∙ c.before.before.before.before.before.before.before.if1.false)
+    (λ c. sym (partner_here _ _ _ (literals_are _ _ _ c.requires.0) _ _
+    c.requires.1 _ c.loop-j-test.true
+    (sym c.sign.ensures
+    ∙ c.if-sign.false)
     (sym (rw (
-      c.before.before.before.before.before.before.field.ensures,
-      c.before.before.before.before.read-rep.ensures
-          ∙ ap (rep_of _) c.before.before.before.before.before.right.ensures,
-    ) at c.before.is-field-partner.ensures) ∙ c.if2.true)
-    c.before.before.before.loop.invariant))
+      c.field-field.ensures,
+      c.read_rep-term.ensures
+          ∙ ap (rep_of _) c.right.ensures,
+    ) at c.is_field_partner.ensures) ∙ c.if-is_field_partner.true)
+    c.loop-j.invariant))
     -- add-j
     (λ c. omega arith)
     -- loop-less
     (λ c. omega arith)
     -- loop-again
-    (λ c. partner_next _ _ _ (literals_are _ _ _ c.before.before.before.before.before.before.before.before.before.before.requires.0) _ _
-    c.before.before.before.before.before.before.before.before.before.before.requires.1 _ c.before.before.loop-test.true
-    (sym c.before.before.before.before.before.before.before.before.sign.ensures
-    ∙ c.before.before.before.before.before.before.before.if1.false)
+    (λ c. partner_next _ _ _ (literals_are _ _ _ c.requires.0) _ _
+    c.requires.1 _ c.loop-j-test.true
+    (sym c.sign.ensures
+    ∙ c.if-sign.false)
     (sym (rw (
-      c.before.before.before.before.before.before.field.ensures,
-      c.before.before.before.before.read-rep.ensures
-          ∙ ap (rep_of _) c.before.before.before.before.before.right.ensures,
-    ) at c.before.is-field-partner.ensures) ∙ c.if2.false)
-    c.before.before.before.loop.invariant)
+      c.field-field.ensures,
+      c.read_rep-term.ensures
+          ∙ ap (rep_of _) c.right.ensures,
+    ) at c.is_field_partner.ensures) ∙ c.if-is_field_partner.false)
+    c.loop-j.invariant)
     -- returns-3
     (λ c.
-    let start = start_of_read_rep c.before.before in
-    sym (partner_end _ _ _ (literals_are _ _ _ start.pre.0) _ _ start.pre.1 _ c.loop-test.false c.before.loop.invariant)))
+    sym (partner_end _ _ _ (literals_are _ _ _ c.requires.0) _ _ c.requires.1 _ c.loop-j-test.false c.loop-j.invariant)))

@@ -12,4 +12,4 @@ close_spec =
     -- close-rows-requires
     (λ c κs. search rules)
     -- returns
-    (λ c. (c.close-rows.ensures.0, c.close-rows.ensures.1)))
+    (λ c. (c.close_rows.ensures.0, c.close_rows.ensures.1)))

@@ -12,6 +12,6 @@ passed_on_spec =
     -- has-requires
     (λ c κs. search rules)
     -- returns
-    (λ c i. passed_all _ _ _ i (sym c.before.has.ensures ∙ c.if1.true))
+    (λ c i. passed_all _ _ _ i (sym c.has.ensures ∙ c.if-has.true))
     -- returns-2
-    (λ c i. passed_none _ _ _ i (sym c.before.has.ensures ∙ c.if1.false)))
+    (λ c i. passed_none _ _ _ i (sym c.has.ensures ∙ c.if-has.false)))

@@ -11,26 +11,21 @@ use Rattle.closing.proofs.Rows.{within_first, within_more, above_more, seed_foll
 use Rattle.closing.proofs.seed.Statement.{statement}
 use Rattle.closing.proofs.seed.Tie as tie
 
-abbrev invariant-loop : tie.invariant-loop
-invariant-loop alive link reach₀ a₀ reach a = (a ≤ 17) × (length reach ≡ 17) × Within (bit alive) (square link) (square reach₀) reach × Above (square reach₀) reach × SeededBelow alive link a reach
+abbrev invariant-loop-a : tie.invariant-loop-a
+invariant-loop-a alive link reach₀ a₀ reach a = (a ≤ 17) × (length reach ≡ 17) × Within (bit alive) (square link) (square reach₀) reach × Above (square reach₀) reach × SeededBelow alive link a reach
 
-abbrev decreases-loop : tie.decreases-loop
-decreases-loop alive link reach₀ a₀ reach a = 17 - a
+abbrev decreases-loop-a : tie.decreases-loop-a
+decreases-loop-a alive link reach₀ a₀ reach a = 17 - a
 
--- The places that lie behind a place.
-
-abbrev only_of_reach : tie.After-reach invariant-loop decreases-loop → tie.After-only invariant-loop decreases-loop
-only_of_reach c = c.before.before
-
-whole : (c : tie.After-loop invariant-loop decreases-loop) → c.before.loop.a ≡ 17
+whole : (c : tie.After-loop-a invariant-loop-a decreases-loop-a) → c.loop-a.a ≡ 17
 whole c = omega arith
 
 pub seed_spec : {M : Type 1} → statement M
 seed_spec =
     tie.close
     (tie.spec
-    invariant-loop
-    decreases-loop
+    invariant-loop-a
+    decreases-loop-a
     -- loop-holds
     (λ c. (omega arith, search rules, within_first _ _ _, λ a b e. e, seeded_none _ _ _))
     -- only-requires
@@ -53,14 +48,14 @@ seed_spec =
     (λ c. omega arith)
     -- loop-again
     (λ c.
-    let l = (only_of_reach c).before.before.loop in (
+    let l = c.loop-a in (
       omega arith,
-      simp length-set l.inv.1,
-      within_more _ l.inv.1 _ _ (omega arith) _ _ _ l.inv.2 (seed_follows _ _ _ _ _ (omega arith) (only_of_reach c).only.ensures),
-      above_more _ l.inv.1 _ _ (omega arith) _ l.inv.3,
-      seeded_more _ _ _ _ _ l.inv.1 (omega arith) (only_of_reach c).only.ensures l.inv.4,
+      simp length-set l.invariant.1,
+      within_more _ l.invariant.1 _ _ (omega arith) _ _ _ l.invariant.2 (seed_follows _ _ _ _ _ (omega arith) c.only.ensures),
+      above_more _ l.invariant.1 _ _ (omega arith) _ l.invariant.3,
+      seeded_more _ _ _ _ _ l.invariant.1 (omega arith) c.only.ensures l.invariant.4,
     ))
     -- same-length
     (λ c. omega arith)
     -- returns
-    (λ c. (c.before.loop.invariant.2, c.before.loop.invariant.3, seeded_all _ _ _ (rw (whole c) at c.before.loop.invariant.4), c.before.loop.invariant.1)))
+    (λ c. (c.loop-a.invariant.2, c.loop-a.invariant.3, seeded_all _ _ _ (rw (whole c) at c.loop-a.invariant.4), c.loop-a.invariant.1)))

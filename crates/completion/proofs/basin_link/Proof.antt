@@ -10,26 +10,6 @@ use Rattle.completion.proofs.Rows.{heads_none, heads_one, heads_several}
 use Rattle.completion.proofs.basin_link.Statement.{statement}
 use Rattle.completion.proofs.basin_link.Tie as tie
 
--- The places that lie behind a place.
-
-abbrev lowest_of_first2 : tie.After-first2 → tie.After-lowest
-lowest_of_first2 c = c.before.before
-
-abbrev first2_of_enum_told3 : tie.After-enum-told3 → tie.After-first2
-first2_of_enum_told3 c = c.before.before
-
-abbrev first_of_lowest : tie.After-lowest → tie.After-first
-first_of_lowest c = c.before.before
-
-abbrev first2_of_enum_told2 : tie.After-enum-told2 → tie.After-first2
-first2_of_enum_told2 c = c.before.before
-
-abbrev first_of_enum_told : tie.After-enum-told → tie.After-first
-first_of_enum_told c = c.before.before
-
-abbrev other_path_of_enum_told4 : tie.After-enum-told4 → tie.After-other-path
-other_path_of_enum_told4 c = c.before.before
-
 pub basin_link_spec : {M : Type 1} → statement M
 basin_link_spec =
     tie.close
@@ -44,13 +24,11 @@ basin_link_spec =
     (λ c. search rules)
     -- returns
     (λ c.
-    let after_first = first_of_enum_told c in
-    sym (heads_none _ (omega arith) _ _ _ _ after_first.before.heads.ensures (sym after_first.first.ensures ∙ ap found_of c.enum_told.given.1)))
+    sym (heads_none _ (omega arith) _ _ _ _ c.heads-row.ensures (sym c.first.ensures ∙ ap found_of c.in_default.is)))
     -- sub-first
     (λ c.
-    let after_first = first_of_lowest c.before in
-    let row = after_first.before.heads in
-    found_positive _ _ (omega arith) row.result row.ensures (search rules) _ (sym after_first.first.ensures ∙ ap found_of c.before.lowest.given.1))
+    let row = c.heads-row in
+    found_positive _ _ (omega arith) row.result row.ensures (search rules) _ (sym c.first.ensures ∙ ap found_of c.in-At.is))
     -- first-requires-2
     (λ c κs. search rules)
     -- enum-told-2
@@ -59,13 +37,11 @@ basin_link_spec =
     (λ c. search rules)
     -- returns-2
     (λ c.
-    let after_first2 = first2_of_enum_told3 c in let after_lowest = lowest_of_first2 after_first2 in
-    let after_first = first_of_lowest after_lowest in
-    let row = after_first.before.heads in
+    let row = c.heads-row in
     sym
     (heads_one _ (omega arith) _ _ _ row.result row.ensures (search rules) _
-    (sym after_first.first.ensures ∙ ap found_of after_lowest.lowest.given.1)
-    (sym after_first2.first2.ensures ∙ ap found_of c.enum-told3.given.1)))
+    (sym c.first.ensures ∙ ap found_of c.in-At.is)
+    (sym c.first-2.ensures ∙ ap found_of c.in_default-first.is)))
     -- other-path-requires
     (λ c κs. search rules)
     -- enum-known-other
@@ -74,25 +50,19 @@ basin_link_spec =
     (λ c. search rules)
     -- returns-3
     (λ c.
-    let after_other_path = other_path_of_enum_told4 c in let after_enum_told2 = after_other_path.before in
-    let after_first2 = first2_of_enum_told2 after_enum_told2 in let after_lowest = lowest_of_first2 after_first2 in
-    let after_first = first_of_lowest after_lowest in
-    let row = after_first.before.heads in
+    let row = c.heads-row in
     sym
     (heads_several _ (omega arith) _ _ _ row.result row.ensures (search rules) _
-    (sym after_first.first.ensures ∙ ap found_of after_lowest.lowest.given.1)
+    (sym c.first.ensures ∙ ap found_of c.in-At.is)
     _
-    (sym after_first2.first2.ensures ∙ ap found_of after_enum_told2.enum-told2.given.1)
-    ∙ ap (λ (o : Option ℕ). get_or o 0) (sym after_other_path.other_path.ensures ∙ ap found_of c.enum-told4.given.1)))
+    (sym c.first-2.ensures ∙ ap found_of c.in-At-first.is)
+    ∙ ap (λ (o : Option ℕ). get_or o 0) (sym c.other_path.ensures ∙ ap found_of c.in_default-other_path.is)))
     -- returns-4
     (λ c.
-    let after_other_path = c.before.before.before in let after_enum_told2 = after_other_path.before in
-    let after_first2 = first2_of_enum_told2 after_enum_told2 in let after_lowest = lowest_of_first2 after_first2 in
-    let after_first = first_of_lowest after_lowest in
-    let row = after_first.before.heads in
+    let row = c.heads-row in
     sym
     (heads_several _ (omega arith) _ _ _ row.result row.ensures (search rules) _
-    (sym after_first.first.ensures ∙ ap found_of after_lowest.lowest.given.1)
+    (sym c.first.ensures ∙ ap found_of c.in-At.is)
     _
-    (sym after_first2.first2.ensures ∙ ap found_of after_enum_told2.enum-told2.given.1)
-    ∙ ap (λ (o : Option ℕ). get_or o 0) (sym after_other_path.other_path.ensures ∙ ap found_of c.before.other.given.1))))
+    (sym c.first-2.ensures ∙ ap found_of c.in-At-first.is)
+    ∙ ap (λ (o : Option ℕ). get_or o 0) (sym c.other_path.ensures ∙ ap found_of c.in-At-other_path.is))))

@@ -14,8 +14,8 @@ begins_without_spec =
     -- has-requires
     (λ c κs. search rules)
     -- returns
-    (λ c. and_failed _ (sym c.before.has.ensures ∙ not-true _ c.if1.true))
+    (λ c. and_failed _ (sym c.has.ensures ∙ c.if-not-has.true))
     -- on-path-requires
     (λ c κs. search rules)
     -- returns-2
-    (λ c. ap not c.on-path.ensures ∙ and-rest _ (sym c.before.before.has.ensures ∙ not-false _ c.before.if1.false)))
+    (λ c. ap not c.on_path.ensures ∙ and-rest _ (sym c.has.ensures ∙ c.if-not-has.false)))

@@ -20,4 +20,4 @@ covers_all_spec =
     -- without-requires
     (λ c κs. search rules)
     -- returns
-    (λ c. covered _ (omega arith) _ _ _ (omega arith) _ _ _ c.before.before.before.Successor-row.ensures c.before.only.ensures c.without.ensures (search rules)))
+    (λ c. covered _ (omega arith) _ _ _ (omega arith) _ _ _ c.successor_row-reached.ensures c.only.ensures c.without.ensures (search rules)))

@@ -5,11 +5,6 @@ use Rattle.completion.proofs.Rows.{heads_row}
 use Rattle.completion.proofs.heads.Statement.{statement}
 use Rattle.completion.proofs.heads.Tie as tie
 
--- The places that lie behind a place.
-
-abbrev successor_row_of_without : tie.After-without → tie.After-successor-row
-successor_row_of_without c = c.before.before
-
 pub heads_spec : {M : Type 1} → statement M
 heads_spec =
     tie.close
@@ -22,6 +17,5 @@ heads_spec =
     (λ c κs. search rules)
     -- returns
     (λ c.
-    let after_successor_row = successor_row_of_without c in
-    let a = after_successor_row.before.args in
-    heads_row a.n a.reach.now (link_of a.links.now) a.v.0 _ _ _ after_successor_row.Successor-row.ensures c.before.led-to.ensures c.without.ensures))
+    let a = c.args in
+    heads_row a.n a.reach.now (link_of a.links.now) a.v.0 _ _ _ c.successor_row-reached.ensures c.led_to.ensures c.without.ensures))

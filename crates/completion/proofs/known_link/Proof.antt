@@ -17,6 +17,6 @@ known_link_spec =
     -- enum_told
     (λ c. search rules)
     -- returns
-    (λ c. next_found _ _ _ _ (sym (ap found_of c.enum_told.given.1) ∙ c.before.before.successor.ensures))
+    (λ c. next_found _ _ _ _ (sym (ap found_of c.in_default.is) ∙ c.successor.ensures))
     -- returns-2
-    (λ c. next_found _ _ _ _ (sym (ap found_of c.before.u.given.1) ∙ c.before.before.before.successor.ensures)))
+    (λ c. next_found _ _ _ _ (sym (ap found_of c.in-At.is) ∙ c.successor.ensures)))

@@ -11,34 +11,28 @@ use Rattle.completion.proofs.Links.{LinkedBelow, linked_more, next_all, next_bel
 use Rattle.completion.proofs.known_links.Statement.{statement}
 use Rattle.completion.proofs.known_links.Tie as tie
 
-abbrev invariant-loop : tie.invariant-loop
-invariant-loop link n links₀ t₀ links t = (t ≤ 17) × (length links ≡ 17) × LinkedBelow t (next n (links_in link)) (link_of links)
+abbrev invariant-loop-t : tie.invariant-loop-t
+invariant-loop-t link n links₀ t₀ links t = (t ≤ 17) × (length links ≡ 17) × LinkedBelow t (next n (links_in link)) (link_of links)
 
-abbrev decreases-loop : tie.decreases-loop
-decreases-loop link n links₀ t₀ links t = 17 - t
+abbrev decreases-loop-t : tie.decreases-loop-t
+decreases-loop-t link n links₀ t₀ links t = 17 - t
 
--- The places that lie behind a place.
-
-abbrev at_loop_of_struct_known : tie.After-struct-known invariant-loop decreases-loop → tie.At-loop invariant-loop decreases-loop
-at_loop_of_struct_known c = c.before.before.before
-
-whole : (c : tie.After-loop invariant-loop decreases-loop) → c.before.loop.t ≡ 17
+whole : (c : tie.After-loop-t invariant-loop-t decreases-loop-t) → c.loop-t.t ≡ 17
 whole c = omega arith
 
 pub known_links_spec : {M : Type 1} → statement M
 known_links_spec =
     tie.close
     (tie.spec
-    invariant-loop
-    decreases-loop
+    invariant-loop-t
+    decreases-loop-t
     -- loop-holds
     (λ c. (omega arith, search rules, λ x h. absurd (omega arith)))
     -- known-link-requires
     (λ c κs. omega arith)
     -- cast-links
     (λ c.
-    let at_loop = at_loop_of_struct_known c in let the_start = at_loop.before in
-    omega (arith, next_below the_start.args.n (links_in the_start.args.link.now) at_loop.loop.t, c.before.known-link.ensures))
+    omega (arith, next_below c.args.n (links_in c.args.link.now) c.loop-t.t, c.known_link-to.ensures))
     -- array-write-links
     (λ c. omega arith)
     -- add-t
@@ -47,10 +41,10 @@ known_links_spec =
     (λ c. omega arith)
     -- loop-again
     (λ c.
-    let l = (at_loop_of_struct_known c).loop in (
+    let l = c.loop-t in (
       omega arith,
-      simp length-set l.inv.1,
-      linked_more _ l.links l.t (omega arith) _ c.before.known-link.ensures l.inv.2,
+      simp length-set l.invariant.1,
+      linked_more _ l.links l.t (omega arith) _ c.known_link-to.ensures l.invariant.2,
     ))
     -- returns
-    (λ c. next_all _ _ _ c.before.loop.invariant.1 (rw (whole c) at c.before.loop.invariant.2)))
+    (λ c. next_all _ _ _ c.loop-t.invariant.1 (rw (whole c) at c.loop-t.invariant.2)))

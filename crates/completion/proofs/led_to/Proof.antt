@@ -7,24 +7,19 @@ use Rattle.completion.proofs.Rows.{LedBelow, led-none, led_more, led_all}
 use Rattle.completion.proofs.led_to.Statement.{statement}
 use Rattle.completion.proofs.led_to.Tie as tie
 
-abbrev invariant-loop : tie.invariant-loop
-invariant-loop links reach n v row₀ u₀ row u = LedBelow reach links n v.0 u row
+abbrev invariant-loop-u : tie.invariant-loop-u
+invariant-loop-u links reach n v row₀ u₀ row u = LedBelow reach links n v.0 u row
 
-abbrev decreases-loop : tie.decreases-loop
-decreases-loop links reach n v row₀ u₀ row u = n + 1 - u
-
--- The places that lie behind a place.
-
-abbrev at_loop_of_holds : tie.After-holds invariant-loop decreases-loop → tie.At-loop invariant-loop decreases-loop
-at_loop_of_holds c = c.before.before.before.before
+abbrev decreases-loop-u : tie.decreases-loop-u
+decreases-loop-u links reach n v row₀ u₀ row u = n + 1 - u
 
 pub led_to_spec : {M : Type 1} → statement M
 unfolding link_of
 led_to_spec =
     tie.close
     (tie.spec
-    invariant-loop
-    decreases-loop
+    invariant-loop-u
+    decreases-loop-u
     -- loop-holds
     (λ c. led-none c.args.reach.now c.args.links.now c.args.n c.args.v.0)
     -- element-copy-out-wide
@@ -35,21 +30,19 @@ led_to_spec =
     (λ c κs. omega arith)
     -- with-requires
     (λ c κs.
-    let at_loop = at_loop_of_holds c in
-    omega (arith, c.before.wide.ensures.0, at_loop.before.pre.2 at_loop.loop.u))
+    omega (arith, c.wide-to.ensures.0, c.requires.2 c.loop-u.u))
     -- add-u
     (λ c. omega arith)
     -- loop-less
     (λ c. omega arith)
     -- loop-again
     (λ c.
-    let after_holds = c.before in let after_wide = after_holds.before in let at_loop = at_loop_of_holds after_holds in
-    let l = at_loop.loop in
-    let a = at_loop.before.args in
-    led_more a.reach.now a.links.now a.n a.v.0 l.u l.row _ after_wide.wide.result after_holds.holds.result (omega arith)
-    after_wide.wide.ensures.0 after_holds.holds.ensures c.with.ensures l.inv)
+    let l = c.loop-u in
+    let a = c.args in
+    led_more a.reach.now a.links.now a.n a.v.0 l.u l.row _ c.wide-to.result c.holds-inside.result (omega arith)
+    c.wide-to.ensures.0 c.holds-inside.ensures c.with-row.ensures l.invariant)
     -- returns
     (λ c.
-    let l = c.before.loop in
-    let a = c.before.before.args in
+    let l = c.loop-u in
+    let a = c.args in
     led_all a.reach.now a.links.now a.n a.v.0 l.u l.row (omega arith) l.invariant))

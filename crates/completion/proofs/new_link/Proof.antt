@@ -14,8 +14,8 @@ new_link_spec =
     -- basin-link-requires
     (λ c κs. search rules)
     -- returns
-    (λ c. c.basin-link.ensures ∙ sym (new_basin _ _ _ _ (sym c.before.before.in-basin.ensures ∙ c.before.if1.true)))
+    (λ c. c.basin_link.ensures ∙ sym (new_basin _ _ _ _ (sym c.in_basin.ensures ∙ c.if-in_basin.true)))
     -- tree-link-requires
     (λ c κs. search rules)
     -- returns-2
-    (λ c. c.tree-link.ensures ∙ sym (new_tree _ _ _ _ (sym c.before.before.in-basin.ensures ∙ c.before.if1.false))))
+    (λ c. c.tree_link.ensures ∙ sym (new_tree _ _ _ _ (sym c.in_basin.ensures ∙ c.if-in_basin.false))))

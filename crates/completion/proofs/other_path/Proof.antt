@@ -11,36 +11,31 @@ use Rattle.completion.specs.Links.{link_of}
 use Rattle.completion.proofs.other_path.Statement.{statement}
 use Rattle.completion.proofs.other_path.Tie as tie
 
-abbrev invariant-loop : tie.invariant-loop
-invariant-loop links heads n v b₀ b =
+abbrev invariant-loop-b : tie.invariant-loop-b
+invariant-loop-b links heads n v b₀ b =
     find (λ x. bit heads x and not (on_path (link_of links) v.0 n x)) (from (n + 1 - 1) 1)
     ≡ find (λ x. bit heads x and not (on_path (link_of links) v.0 n x)) (from (n + 1 - b) b)
 
-abbrev decreases-loop : tie.decreases-loop
-decreases-loop links heads n v b₀ b = n + 1 - b
-
--- The places that lie behind a place.
-
-abbrev at_loop_of_begins_without : tie.After-begins-without invariant-loop decreases-loop → tie.At-loop invariant-loop decreases-loop
-at_loop_of_begins_without c = c.before.before
+abbrev decreases-loop-b : tie.decreases-loop-b
+decreases-loop-b links heads n v b₀ b = n + 1 - b
 
 pub other_path_spec : {M : Type 1} → statement M
 other_path_spec =
     tie.close
     (tie.spec
-    invariant-loop
-    decreases-loop
+    invariant-loop-b
+    decreases-loop-b
     -- loop-holds
     (λ c. refl)
     -- begins-without-requires
-    (λ c κs. (omega arith, c.before.before.requires.1))
+    (λ c κs. (omega arith, c.requires.1))
     -- returns
-    (λ c. sym ((at_loop_of_begins_without c.before).loop.inv ∙ find_here _ _ _ (omega arith) (sym c.before.begins-without.ensures ∙ c.if1.true)))
+    (λ c. sym (c.loop-b.invariant ∙ find_here _ _ _ (omega arith) (sym c.begins_without.ensures ∙ c.if-begins_without.true)))
     -- add-b
     (λ c. omega arith)
     -- loop-less
     (λ c. omega arith)
     -- loop-again
-    (λ c. (at_loop_of_begins_without c.before).loop.inv ∙ find_next _ _ _ (omega arith) (sym c.before.begins-without.ensures ∙ c.if1.false))
+    (λ c. c.loop-b.invariant ∙ find_next _ _ _ (omega arith) (sym c.begins_without.ensures ∙ c.if-begins_without.false))
     -- returns-2
-    (λ c. sym (c.before.loop.invariant ∙ find_end _ _ _ (omega arith))))
+    (λ c. sym (c.loop-b.invariant ∙ find_end _ _ _ (omega arith))))

@@ -15,7 +15,7 @@ facts_held_spec =
     -- element-copy-out-row
     (λ c. search rules)
     -- returns
-    (λ c e. none_held _ _ _ _ (omega arith) c.if1.true)
+    (λ c e. none_held _ _ _ _ (omega arith) c.if-row-eq0.true)
     -- read-rep-requires
     (λ c κs. search rules)
     -- returns-2
@@ -27,4 +27,4 @@ facts_held_spec =
     -- row-held-requires
     (λ c κs. search rules)
     -- returns-3
-    (λ c e. row_held _ _ _ _ (omega arith) _ c.before.before.before.read-rep.ensures (omega arith) (c.row-held.ensures e)))
+    (λ c e. row_held _ _ _ _ (omega arith) _ c.read_rep-to.ensures (omega arith) (c.row_held.ensures e)))

@@ -6,9 +6,9 @@ use Rattle.facts.specs.Path.{graph_of}
 use Rattle.covering.proofs.graph_held.Statement.{statement}
 use Rattle.covering.proofs.graph_held.Tie as tie
 
-returns_2 : tie.Need-returns-2
+returns_2 : tie.Need-returns
 unfolding graph_of
-returns_2 c e = (c.before.before.rows-held.ensures (not-false _ c.before.if1.false), c.rows-held2.ensures e)
+returns_2 c e = (c.rows_held.ensures c.if-not-rows_held.false, c.rows_held-2.ensures e)
 
 pub graph_held_spec : {M : Type 1} → statement M
 graph_held_spec =

@@ -16,7 +16,7 @@ held_at_spec =
     -- has-requires
     (λ c κs. search rules)
     -- returns
-    (λ c e f. absurd (true-false f (sym c.before.has.ensures ∙ not-true _ c.if1.true)))
+    (λ c e f. absurd (true-false f (sym c.has.ensures ∙ c.if-not-has.true)))
     -- read-rep-requires
     (λ c κs. search rules)
     -- returns-2
@@ -24,4 +24,4 @@ held_at_spec =
     -- has-requires-2
     (λ c κs. search rules)
     -- returns-3
-    (λ c e f. held_here _ _ _ c.before.before.before.read-rep.ensures (omega arith) (sym c.has2.ensures ∙ e)))
+    (λ c e f. held_here _ _ _ c.read_rep-to.ensures (omega arith) (sym c.has-2.ensures ∙ e)))

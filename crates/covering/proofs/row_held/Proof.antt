@@ -11,18 +11,18 @@ use Rattle.covering.proofs.Held.{Below, below_none, below_more, below_all}
 use Rattle.covering.proofs.row_held.Statement.{statement}
 use Rattle.covering.proofs.row_held.Tie as tie
 
-abbrev invariant-loop : tie.invariant-loop
-invariant-loop row reps far b₀ b = (b ≤ 17) × Below (λ (b : ℕ). bit row b ≡ true → row_of far (rep_of reps b) ≡ true) b
+abbrev invariant-loop-b : tie.invariant-loop-b
+invariant-loop-b row reps far b₀ b = (b ≤ 17) × Below (λ (b : ℕ). bit row b ≡ true → row_of far (rep_of reps b) ≡ true) b
 
-abbrev decreases-loop : tie.decreases-loop
-decreases-loop row reps far b₀ b = 17 - b
+abbrev decreases-loop-b : tie.decreases-loop-b
+decreases-loop-b row reps far b₀ b = 17 - b
 
 pub row_held_spec : {M : Type 1} → statement M
 row_held_spec =
     tie.close
     (tie.spec
-    invariant-loop
-    decreases-loop
+    invariant-loop-b
+    decreases-loop-b
     -- loop-holds
     (λ c. (omega arith, below_none _ _ refl))
     -- held-at-requires
@@ -34,6 +34,6 @@ row_held_spec =
     -- loop-less
     (λ c. omega arith)
     -- loop-again
-    (λ c. (omega arith, below_more _ _ c.before.before.before.loop.invariant.1 (c.before.held_at.ensures (not-false _ c.if1.false))))
+    (λ c. (omega arith, below_more _ _ c.loop-b.invariant.1 (c.held_at.ensures c.if-not-held_at.false)))
     -- returns-2
-    (λ c e. below_all _ _ c.loop-test.false c.before.loop.invariant.1))
+    (λ c e. below_all _ _ c.loop-b-test.false c.loop-b.invariant.1))

@@ -10,18 +10,18 @@ use Rattle.covering.proofs.Held.{Below, below_none, below_more, below_all, rows_
 use Rattle.covering.proofs.rows_held.Statement.{statement}
 use Rattle.covering.proofs.rows_held.Tie as tie
 
-abbrev invariant-loop : tie.invariant-loop
-invariant-loop rows reps others a₀ a = (a ≤ 17) × Below (λ (a : ℕ). (b : ℕ) → square rows a b ≡ true → square others (rep_of reps a) (rep_of reps b) ≡ true) a
+abbrev invariant-loop-a : tie.invariant-loop-a
+invariant-loop-a rows reps others a₀ a = (a ≤ 17) × Below (λ (a : ℕ). (b : ℕ) → square rows a b ≡ true → square others (rep_of reps a) (rep_of reps b) ≡ true) a
 
-abbrev decreases-loop : tie.decreases-loop
-decreases-loop rows reps others a₀ a = 17 - a
+abbrev decreases-loop-a : tie.decreases-loop-a
+decreases-loop-a rows reps others a₀ a = 17 - a
 
 pub rows_held_spec : {M : Type 1} → statement M
 rows_held_spec =
     tie.close
     (tie.spec
-    invariant-loop
-    decreases-loop
+    invariant-loop-a
+    decreases-loop-a
     -- loop-holds
     (λ c. (omega arith, below_none _ _ refl))
     -- facts-held-requires
@@ -33,6 +33,6 @@ rows_held_spec =
     -- loop-less
     (λ c. omega arith)
     -- loop-again
-    (λ c. (omega arith, below_more _ _ c.before.before.before.loop.invariant.1 (c.before.facts-held.ensures (not-false _ c.if1.false))))
+    (λ c. (omega arith, below_more _ _ c.loop-a.invariant.1 (c.facts_held.ensures c.if-not-facts_held.false)))
     -- returns-2
-    (λ c e. rows_held _ _ _ (below_all _ _ c.loop-test.false c.before.loop.invariant.1)))
+    (λ c e. rows_held _ _ _ (below_all _ _ c.loop-a-test.false c.loop-a.invariant.1)))

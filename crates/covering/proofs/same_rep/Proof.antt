@@ -6,11 +6,6 @@ use Rattle.facts.specs.Path.{rep_of}
 use Rattle.covering.proofs.same_rep.Statement.{statement}
 use Rattle.covering.proofs.same_rep.Tie as tie
 
--- The places that lie behind a place.
-
-abbrev read_rep3_of_struct_known2 : tie.After-struct-known2 → tie.After-read-rep3
-read_rep3_of_struct_known2 c = c.before.before
-
 pub same_rep_spec : {M : Type 1} → statement M
 same_rep_spec =
     tie.close
@@ -23,5 +18,4 @@ same_rep_spec =
     (λ c κs. search rules)
     -- returns
     (λ c e.
-    let after_read_rep3 = read_rep3_of_struct_known2 c in let after_read_rep2 = after_read_rep3.before in
-    ap (rep_of _) (sym after_read_rep2.before.read-rep.ensures) ∙ sym after_read_rep2.read-rep2.ensures ∙ eqb-true _ _ e ∙ after_read_rep3.read-rep3.ensures))
+    ap (rep_of _) (sym c.read_rep-old.ensures) ∙ sym c.read_rep-there.ensures ∙ eqb-true _ _ e ∙ c.read_rep-here.ensures))

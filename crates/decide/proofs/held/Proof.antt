@@ -9,4 +9,5 @@ unfolding path_of
 returns c = refl
 
 pub held_spec : {M : Type 1} → statement M
-held_spec = tie.close (tie.spec returns)
+held_spec = tie.close (tie.spec
+    returns)

@@ -6,30 +6,30 @@ use Rattle.decide.proofs.Tells.{ends_nothing}
 use Rattle.decide.proofs.in_turn.Statement.{statement}
 use Rattle.decide.proofs.in_turn.Tie as tie
 
-abbrev invariant-loop : tie.invariant-loop
-invariant-loop query layout s first budget₀ turn₀ budget turn = turn ≤ 60
+abbrev invariant-loop-turn : tie.invariant-loop-turn
+invariant-loop-turn query layout s first budget₀ turn₀ budget turn = turn ≤ 60
 
-abbrev decreases-loop : tie.decreases-loop
-decreases-loop query layout s first budget₀ turn₀ budget turn = 60 - turn
+abbrev decreases-loop-turn : tie.decreases-loop-turn
+decreases-loop-turn query layout s first budget₀ turn₀ budget turn = 60 - turn
 
 pub in_turn_spec : {M : Type 1} → statement M
 in_turn_spec =
     tie.close
     (tie.spec
-    invariant-loop
-    decreases-loop
+    invariant-loop-turn
+    decreases-loop-turn
     -- search-requires
     (λ c κs. search rules)
     -- is-unknown-requires
     (λ c κs. search rules)
     -- returns
-    (λ c. c.before.before.before.search.ensures)
+    (λ c. c.search-quick.ensures)
     -- search-requires-2
     (λ c κs. search rules)
     -- is-unknown-requires-2
     (λ c κs. search rules)
     -- returns-2
-    (λ c. c.before.before.before.search2.ensures)
+    (λ c. c.search-soon.ensures)
     -- loop-holds
     (λ c. omega arith)
     -- strategy-requires
@@ -39,7 +39,7 @@ in_turn_spec =
     -- is-unknown-requires-3
     (λ c κs. search rules)
     -- returns-3
-    (λ c. c.before.before.before.search3.ensures)
+    (λ c. c.search-tried.ensures)
     -- grown-requires
     (λ c κs. search rules)
     -- add-turn

@@ -23,14 +23,13 @@ search_spec =
     tie.close
     (tie.spec
     -- search-requires
-    (λ c κs. c.before.before.requires)
+    (λ c κs. c.requires)
     -- returns
-    (λ c. ends_found _ _ _ _ c.before.search.ensures)
+    (λ c. ends_found _ _ _ _ c.search-found.ensures)
     -- search-in-requires
     (λ c κs.
-    let begun = c.before.before.before.before.before.before.before.before in
-    let p = begun.requires in
-    let a = lts.dens (searched_reads.Asked, searched_reads.Learnt, search_in_reads.Asked, search_in_reads.Learnt) reads.Pre reads.Post begun.lifetimes begun.args in
-    (p.0, p.1, p.2, whole begun.lifetimes a begun.well-formed))
+    let p = c.requires in
+    let a = lts.dens (searched_reads.Asked, searched_reads.Learnt, search_in_reads.Asked, search_in_reads.Learnt) reads.Pre reads.Post c.lifetimes c.args in
+    (p.0, p.1, p.2, whole c.lifetimes a c.well_formed))
     -- returns-2
-    (λ c. c.search-in.ensures.0))
+    (λ c. c.search_in-w.ensures.0))

@@ -8,41 +8,37 @@ use Rattle.decimal_lines.proofs.Reading.{begins_end, begins_short, begins_other,
 use Rattle.decimal_lines.proofs.begins.Statement.{statement}
 use Rattle.decimal_lines.proofs.begins.Tie as tie
 
-abbrev invariant-loop : tie.invariant-loop
-invariant-loop bytes word i₀ i = (i ≤ length word) × (begins (drop i word) (drop i bytes) ≡ begins word bytes)
+abbrev invariant-loop-i : tie.invariant-loop-i
+invariant-loop-i bytes word i₀ i = (i ≤ length word) × (begins (drop i word) (drop i bytes) ≡ begins word bytes)
 
-abbrev decreases-loop : tie.decreases-loop
-decreases-loop bytes word i₀ i = length word - i
+abbrev decreases-loop-i : tie.decreases-loop-i
+decreases-loop-i bytes word i₀ i = length word - i
 
 pub begins_spec : {M : Type 1} → statement M
 begins_spec =
     tie.close
     (tie.spec
-    invariant-loop
-    decreases-loop
+    invariant-loop-i
+    decreases-loop-i
     -- loop-holds
     (λ c. (omega arith, refl))
     -- returns
     (λ c.
-    let at_loop = c.before.before in
-    sym (begins_short _ _ at_loop.loop.i c.before.loop-test.true c.if1.true) ∙ at_loop.loop.invariant.1)
+    sym (begins_short _ _ c.loop-i.i c.loop-i-test.true c.if-bytes-i.true) ∙ c.loop-i.invariant.1)
     -- shared-slice-read-if2
     (λ c. omega arith)
     -- shared-slice-read-if2-2
     (λ c. omega arith)
     -- returns-2
     (λ c.
-    let else1 = c.before.before.before in let in_loop = else1.before in let at_loop = in_loop.before in
-    sym (begins_other _ _ at_loop.loop.i in_loop.loop-test.true (omega (arith, else1.if1.false)) c.if2.true) ∙ at_loop.loop.invariant.1)
+    sym (begins_other _ _ c.loop-i.i c.loop-i-test.true (omega (arith, c.if-bytes-i.false)) c.if-bytes-i-2.true) ∙ c.loop-i.invariant.1)
     -- add-i
     (λ c. omega arith)
     -- loop-less
     (λ c. omega arith)
     -- loop-again
     (λ c.
-    let else1 = c.before.before.before in let in_loop = else1.before in let at_loop = in_loop.before in
-    (omega arith, sym (begins-next _ _ at_loop.loop.i in_loop.loop-test.true (omega (arith, else1.if1.false)) c.if2.false) ∙ at_loop.loop.invariant.1))
+    (omega arith, sym (begins-next _ _ c.loop-i.i c.loop-i-test.true (omega (arith, c.if-bytes-i.false)) c.if-bytes-i-2.false) ∙ c.loop-i.invariant.1))
     -- returns-3
     (λ c.
-    let at_loop = c.before in
-    sym (begins_end _ _ at_loop.loop.i (omega arith)) ∙ at_loop.loop.invariant.1))
+    sym (begins_end _ _ c.loop-i.i (omega arith)) ∙ c.loop-i.invariant.1))

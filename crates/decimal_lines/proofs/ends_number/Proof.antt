@@ -1,5 +1,5 @@
 -- Assumes nothing.
-use Rattle.decimal_lines.proofs.Reading.{not_left, not_taken, ends-not, ends_blank, ends_line}
+use Rattle.decimal_lines.proofs.Reading.{ends-not, ends_blank, ends_line}
 use Rattle.decimal_lines.proofs.ends_number.Statement.{statement}
 use Rattle.decimal_lines.proofs.ends_number.Tie as tie
 
@@ -8,8 +8,8 @@ ends_number_spec =
     tie.close
     (tie.spec
     -- returns
-    (λ c. ends-not _ _ (not_taken _ c.if1.true))
+    (λ c. ends-not _ _ c.if-not-begun.true)
     -- returns-2
-    (λ c. ends_blank _ _ (not_left _ c.before.if1.false) c.if2.true)
+    (λ c. ends_blank _ _ c.if-not-begun.false c.if-place-lt3.true)
     -- returns-3
-    (λ c. ends_line _ _ (not_left _ c.before.if1.false) c.if2.false))
+    (λ c. ends_line _ _ c.if-not-begun.false c.if-place-lt3.false))

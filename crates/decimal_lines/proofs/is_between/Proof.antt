@@ -8,6 +8,6 @@ is_between_spec =
     tie.close
     (tie.spec
     -- returns
-    (λ c. between_not _ c.if1.true)
+    (λ c. between_not _ c.if-begun.true)
     -- returns-2
-    (λ c. between_place _ c.if1.false))
+    (λ c. between_place _ c.if-begun.false))

@@ -8,6 +8,6 @@ is_digit_spec =
     tie.close
     (tie.spec
     -- returns
-    (λ c. digit_low _ c.if1.true)
+    (λ c. digit_low _ c.if-c-lt48.true)
     -- returns-2
-    (λ c. digit_test _ c.if1.false))
+    (λ c. digit_test _ c.if-c-lt48.false))

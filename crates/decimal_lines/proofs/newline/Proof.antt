@@ -9,6 +9,6 @@ newline_spec =
     tie.close
     (tie.spec
     -- returns
-    (λ c. (newline_is _ c.if1.true, omega arith))
+    (λ c. (newline_is _ c.if-c-eq10.true, omega arith))
     -- returns-2
-    (λ c. (newline_not _ c.if1.false, omega arith)))
+    (λ c. (newline_not _ c.if-c-eq10.false, omega arith)))

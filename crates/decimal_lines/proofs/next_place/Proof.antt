@@ -11,6 +11,6 @@ next_place_spec =
     -- add-result
     (λ c. omega arith)
     -- returns
-    (λ c. (place_on _ c.if1.true, omega arith))
+    (λ c. (place_on _ c.if-place-lt3.true, omega arith))
     -- returns-2
-    (λ c. (place_back _ c.if1.false, omega arith)))
+    (λ c. (place_back _ c.if-place-lt3.false, omega arith)))

@@ -5,43 +5,23 @@ use native.Mathlib.Omega.{arith}
 use mathlib.Core.Path.{refl, sym, ◌∙◌}
 use lib.ListN.{length}
 use Rattle.text.proofs.Writing.{writes_length}
-use Rattle.decimal_lines.proofs.Reading.{not_left, not_taken, digit_range, digit_is, end_is, value_as, place_as, Scanned}
+use Rattle.decimal_lines.proofs.Reading.{digit_range, digit_is, end_is, value_as, place_as, Scanned}
 use Rattle.decimal_lines.proofs.Reading.{scanned_none, scanned_digit, scanned_end, puts_big, puts_other, puts_open, puts_all}
 use Rattle.decimal_lines.proofs.put_numbers.Statement.{statement}
 use Rattle.decimal_lines.proofs.put_numbers.Tie as tie
 
-abbrev invariant-loop : tie.invariant-loop
-invariant-loop buffer₀ at text to₀ place₀ value₀ begun₀ i₀ buffer to place value begun i = (i ≤ length text) × (place ≤ 3) × (value ≤ 255) × Scanned buffer₀ at text buffer to place value begun i
+abbrev invariant-loop-i : tie.invariant-loop-i
+invariant-loop-i buffer₀ at text to₀ place₀ value₀ begun₀ i₀ buffer to place value begun i = (i ≤ length text) × (place ≤ 3) × (value ≤ 255) × Scanned buffer₀ at text buffer to place value begun i
 
-abbrev decreases-loop : tie.decreases-loop
-decreases-loop buffer₀ at text to₀ place₀ value₀ begun₀ i₀ buffer to place value begun i = length text - i
-
--- The places that lie behind a place.
-
-abbrev at_loop_of_is_between : tie.After-is-between invariant-loop decreases-loop → tie.At-loop invariant-loop decreases-loop
-at_loop_of_is_between c = c.before.before
-
-abbrev is_digit_of_ends_number : tie.After-ends-number invariant-loop decreases-loop → tie.After-is-digit invariant-loop decreases-loop
-is_digit_of_ends_number c = c.before.before
-
-abbrev wide_of_then1 : tie.Then1 invariant-loop decreases-loop → tie.After-wide invariant-loop decreases-loop
-wide_of_then1 c = c.before.before
-
-abbrev in_loop_of_wide : tie.After-wide invariant-loop decreases-loop → tie.In-loop invariant-loop decreases-loop
-in_loop_of_wide c = c.before.before
-
-abbrev wide_of_ends_number : tie.After-ends-number invariant-loop decreases-loop → tie.After-wide invariant-loop decreases-loop
-wide_of_ends_number c = (is_digit_of_ends_number c).before
-
-abbrev at_loop_of_wide : tie.After-wide invariant-loop decreases-loop → tie.At-loop invariant-loop decreases-loop
-at_loop_of_wide c = (in_loop_of_wide c).before
+abbrev decreases-loop-i : tie.decreases-loop-i
+decreases-loop-i buffer₀ at text to₀ place₀ value₀ begun₀ i₀ buffer to place value begun i = length text - i
 
 pub put_numbers_spec : {M : Type 1} → statement M
 put_numbers_spec =
     tie.close
     (tie.spec
-    invariant-loop
-    decreases-loop
+    invariant-loop-i
+    decreases-loop-i
     -- loop-holds
     (λ c. (omega arith, omega arith, omega arith, scanned_none _ _ _))
     -- shared-slice-read-wide
@@ -53,45 +33,43 @@ put_numbers_spec =
     -- mul-value
     (λ c. omega arith)
     -- sub-value
-    (λ c. omega (arith, (wide_of_then1 c).wide.ensures.0, (digit_range _ (sym c.before.is_digit.ensures ∙ c.if1.true)).0))
+    (λ c. omega (arith, c.wide-c.ensures.0, (digit_range _ (sym c.is_digit.ensures ∙ c.if-is_digit.true)).0))
     -- add-value
-    (λ c. omega (arith, (wide_of_then1 c).wide.ensures.1))
+    (λ c. omega (arith, c.wide-c.ensures.1))
     -- same-length
-    (λ c. writes_length (at_loop_of_wide (wide_of_then1 c.before)).loop.inv.3.wrote)
+    (λ c. writes_length c.loop-i.invariant.3.wrote)
     -- returns
     (λ c.
-    let after_wide = wide_of_then1 c.before in
-    puts_big _ _ _ (at_loop_of_wide after_wide).loop.inv.3 _ _ refl (in_loop_of_wide after_wide).loop-test.taken
-    (digit_is _ after_wide.wide.ensures.0 (sym c.before.before.is_digit.ensures ∙ c.before.if1.true))
-    (omega (arith, after_wide.wide.ensures.0, c.if2.true)))
+    puts_big _ _ _ c.loop-i.invariant.3 _ _ refl c.loop-i-test.true
+    (digit_is _ c.wide-c.ensures.0 (sym c.is_digit.ensures ∙ c.if-is_digit.true))
+    (omega (arith, c.wide-c.ensures.0, c.if-value-gt255.true)))
     -- add-i
     (λ c. omega arith)
     -- loop-less
     (λ c. omega arith)
     -- loop-again
     (λ c.
-    let after_wide = wide_of_then1 c.before in let wide_ensures_0 = after_wide.wide.ensures.0 in (
+    let wide_ensures_0 = c.wide-c.ensures.0 in (
       omega arith,
       omega arith,
       omega arith,
       value_as _ wide_ensures_0
-          (scanned_digit _ _ _ (at_loop_of_wide after_wide).loop.inv.3 (in_loop_of_wide after_wide).loop-test.taken
-          (digit_is _ wide_ensures_0 (sym c.before.before.is_digit.ensures ∙ c.before.if1.true)) (omega (arith, wide_ensures_0, c.if2.false))),
+          (scanned_digit _ _ _ c.loop-i.invariant.3 c.loop-i-test.true
+          (digit_is _ wide_ensures_0 (sym c.is_digit.ensures ∙ c.if-is_digit.true)) (omega (arith, wide_ensures_0, c.if-value-gt255.false))),
     ))
     -- ends-number-requires
     (λ c κs. search rules)
     -- same-length-2
-    (λ c. writes_length (at_loop_of_wide (wide_of_ends_number c.before)).loop.inv.3.wrote)
+    (λ c. writes_length c.loop-i.invariant.3.wrote)
     -- returns-2
     (λ c.
-    let after_is_digit = is_digit_of_ends_number c.before in let after_wide = after_is_digit.before in
-    puts_other _ _ _ (at_loop_of_wide after_wide).loop.inv.3 _ _ refl (in_loop_of_wide after_wide).loop-test.taken
-    (digit_is _ after_wide.wide.ensures.0 (sym after_is_digit.is_digit.ensures ∙ c.before.before.if1.false))
-    (end_is _ _ after_wide.wide.ensures.0 (sym c.before.ends-number.ensures ∙ not_taken _ c.if3.true)))
+    puts_other _ _ _ c.loop-i.invariant.3 _ _ refl c.loop-i-test.true
+    (digit_is _ c.wide-c.ensures.0 (sym c.is_digit.ensures ∙ c.if-is_digit.false))
+    (end_is _ _ c.wide-c.ensures.0 (sym c.ends_number.ensures ∙ c.if-not-ends_number.true)))
     -- cast-put-byte
     (λ c. omega arith)
     -- put-byte-requires
-    (λ c κs. omega (arith, (at_loop_of_wide (wide_of_ends_number c.before.before)).loop.inv.3.few))
+    (λ c κs. omega (arith, c.loop-i.invariant.3.few))
     -- next-place-requires
     (λ c κs. search rules)
     -- add-i-2
@@ -99,25 +77,23 @@ put_numbers_spec =
     -- loop-less-2
     (λ c. omega arith)
     -- loop-again-2
-    (λ c.
-    let after_put_byte = c.before.before.before in let else3 = after_put_byte.before.before in let after_ends_number = else3.before in
-    let after_wide = wide_of_ends_number after_ends_number in (
+    (λ c. (
       omega arith,
-      omega (arith, c.next_place.ensures.1),
+      omega (arith, c.next_place-place.ensures.1),
       omega arith,
-      place_as (sym c.next_place.ensures.0)
-          (scanned_end _ _ _ (at_loop_of_wide after_wide).loop.inv.3 (in_loop_of_wide after_wide).loop-test.taken
-          (digit_is _ after_wide.wide.ensures.0
-          (sym (is_digit_of_ends_number after_ends_number).is_digit.ensures ∙ after_ends_number.before.if1.false))
-          (end_is _ _ after_wide.wide.ensures.0 (sym after_ends_number.ends-number.ensures ∙ not_left _ else3.if3.false)) after_put_byte.put_byte.ensures),
+      place_as (sym c.next_place-place.ensures.0)
+          (scanned_end _ _ _ c.loop-i.invariant.3 c.loop-i-test.true
+          (digit_is _ c.wide-c.ensures.0
+          (sym c.is_digit.ensures ∙ c.if-is_digit.false))
+          (end_is _ _ c.wide-c.ensures.0 (sym c.ends_number.ensures ∙ c.if-not-ends_number.false)) c.put_byte-to.ensures),
     ))
     -- is-between-requires
     (λ c κs. search rules)
     -- same-length-3
-    (λ c. writes_length (at_loop_of_is_between c.before).loop.inv.3.wrote)
+    (λ c. writes_length c.loop-i.invariant.3.wrote)
     -- returns-3
-    (λ c. puts_open _ _ _ (at_loop_of_is_between c.before).loop.inv.3 _ _ refl (omega arith) (sym c.before.is-between.ensures ∙ not_taken _ c.if4.true))
+    (λ c. puts_open _ _ _ c.loop-i.invariant.3 _ _ refl (omega arith) (sym c.is_between.ensures ∙ c.if-not-is_between.true))
     -- same-length-4
-    (λ c. writes_length (at_loop_of_is_between c.before).loop.inv.3.wrote)
+    (λ c. writes_length c.loop-i.invariant.3.wrote)
     -- returns-4
-    (λ c. puts_all _ _ _ (at_loop_of_is_between c.before).loop.inv.3 (omega arith) (sym c.before.is-between.ensures ∙ not_left _ c.if4.false)))
+    (λ c. puts_all _ _ _ c.loop-i.invariant.3 (omega arith) (sym c.is_between.ensures ∙ c.if-not-is_between.false)))

@@ -10,10 +10,10 @@ first_wrong_spec =
     tie.close
     (tie.spec
     -- returns
-    (λ c. conclude_wrong _ _ (not-true _ c.if1.true))
+    (λ c. conclude_wrong _ _ (not-true _ c.if-not-judged.true))
     -- add-result
-    (λ c. let l = c.if2.true in let p = c.before.before.before.requires in omega arith)
+    (λ c. let l = c.if-at-count.true in let p = c.requires in omega arith)
     -- returns-2
-    (λ c. conclude_more _ _ (not-false _ c.before.if1.false) c.if2.true)
+    (λ c. conclude_more _ _ (not-false _ c.if-not-judged.false) c.if-at-count.true)
     -- returns-3
-    (λ c. conclude_all _ _ (not-false _ c.before.if1.false) c.if2.false))
+    (λ c. conclude_all _ _ (not-false _ c.if-not-judged.false) c.if-at-count.false))

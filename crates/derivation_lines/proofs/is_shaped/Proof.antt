@@ -9,12 +9,12 @@ is_shaped_spec =
     tie.close
     (tie.spec
     -- returns
-    (λ c. shape_short _ c.if1.true)
+    (λ c. shape_short _ c.if-length-lt2.true)
     -- count-of-requires
-    (λ c κs. let l = c.if1.false in omega arith)
+    (λ c κs. let l = c.if-length-lt2.false in omega arith)
     -- mul-result
-    (λ c. let u = c.count_of.ensures.1 in omega arith)
+    (λ c. let u = c.count_of-count.ensures.1 in omega arith)
     -- add-result
-    (λ c. let u = c.count_of.ensures.1 in omega arith)
+    (λ c. let u = c.count_of-count.ensures.1 in omega arith)
     -- returns-2
-    (λ c. shape_is _ _ c.count_of.ensures.0))
+    (λ c. shape_is _ _ c.count_of-count.ensures.0))

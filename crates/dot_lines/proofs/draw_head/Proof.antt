@@ -9,28 +9,18 @@ use Rattle.drawing.specs.Text.{opening, comment_open, newline, comment_line}
 use Rattle.dot_lines.proofs.draw_head.Statement.{statement}
 use Rattle.dot_lines.proofs.draw_head.Tie as tie
 
--- The places that lie behind a place.
-
-abbrev add_of_slice_known2 : tie.After-slice-known2 → tie.After-add
-add_of_slice_known2 c = c.before.before
-
 -- returns
 returns : tie.Need-returns
 unfolding comment_line
 returns c =
-    let after_add = add_of_slice_known2 c in
-    writes_as (ap (λ (k : ℕ). opening ++ (comment_open ++ (decimal k ++ newline))) after_add.before.before.booleans-in.ensures) after_add.add.ensures
+    writes_as (ap (λ (k : ℕ). opening ++ (comment_open ++ (decimal k ++ newline))) c.booleans_in.ensures) c.add.ensures
 
 pub draw_head_spec : {M : Type 1} → statement M
 draw_head_spec =
     tie.close
     (tie.spec
-    -- slice-aggregate-add
-    (λ c. search rules)
     -- booleans-in-requires
     (λ c κs. search rules)
-    -- slice-aggregate-add-2
-    (λ c. search rules)
     -- add-requires
     (λ c κs. search rules)
     -- same-length

@@ -12,23 +12,6 @@ use Rattle.drawing.specs.Text.{datum_in, label_open, label_close, slash, listed,
 use Rattle.dot_lines.proofs.draw_node.Statement.{statement}
 use Rattle.dot_lines.proofs.draw_node.Tie as tie
 
--- The places that lie behind a place.
-
-abbrev add2_of_slice_known4 : tie.After-slice-known4 → tie.After-add2
-add2_of_slice_known4 c = c.before.before
-
-abbrev start_of_datum_in : tie.After-datum-in → tie.Start
-start_of_datum_in c = c.before.before.before
-
-abbrev add_of_draw_terms_arg : tie.After-draw-terms-arg → tie.After-add
-add_of_draw_terms_arg c = c.before.before.before
-
-abbrev datum_in_of_add : tie.After-add → tie.After-datum-in
-datum_in_of_add c = c.before.before.before.before
-
-abbrev draw_terms_of_add_arg6 : tie.After-add-arg6 → tie.After-draw-terms
-draw_terms_of_add_arg6 c = c.before.before.before.before.before
-
 -- the parts of a line, and how long they are
 module _ (report : List ℕ) (v : ℕ) where
   abbrev names : List ℕ
@@ -46,34 +29,27 @@ module _ (report : List ℕ) (v : ℕ) where
       omega (arith, ap length (parts d e), length-append (decimal v ++ label_open) (names ++ datum d), length-append names (datum d))
 
 -- draw-terms-requires
-draw_terms_requires : tie.Need-draw-terms-requires
+draw_terms_requires : tie.Need-draw_terms-slash-requires
 draw_terms_requires c κs =
-    let after_add = add_of_draw_terms_arg c in let after_datum_in = datum_in_of_add after_add in
-    let the_start = start_of_datum_in after_datum_in in
-    let read = after_datum_in.datum-in in
-    omega (arith, the_start.pre.1, after_add.add.ensures.ends, sizes the_start.args.report.now the_start.args.v.0 _ read.ensures)
+    let read = c.datum_in-datum in
+    omega (arith, c.requires.1, c.add-label.ensures.ends, sizes c.args.report.now c.args.v.0 _ read.ensures)
 
 -- add-requires-2
-add_requires_2 : tie.Need-add-requires-2
+add_requires_2 : tie.Need-add-requires
 add_requires_2 c κs =
-    let after_draw_terms = draw_terms_of_add_arg6 c in let after_add = add_of_draw_terms_arg after_draw_terms.before in
-    let after_datum_in = datum_in_of_add after_add in let the_start = start_of_datum_in after_datum_in in
-    let first = after_add.add in
-    let terms = after_draw_terms.draw-terms in
-    let read = after_datum_in.datum-in in
-    omega (arith, the_start.pre.1, first.ensures.ends, terms.ensures.ends, sizes the_start.args.report.now the_start.args.v.0 _ read.ensures)
+    let first = c.add-label in
+    let terms = c.draw_terms-slash in
+    let read = c.datum_in-datum in
+    omega (arith, c.requires.1, first.ensures.ends, terms.ensures.ends, sizes c.args.report.now c.args.v.0 _ read.ensures)
 
 -- returns
 returns : tie.Need-returns
 returns c =
-    let after_add2 = add2_of_slice_known4 c in let after_draw_terms = draw_terms_of_add_arg6 after_add2.before in
-    let after_add = add_of_draw_terms_arg after_draw_terms.before in let after_datum_in = datum_in_of_add after_add in
-    let the_start = start_of_datum_in after_datum_in in
-    let first = after_add.add in
-    let terms = after_draw_terms.draw-terms in
-    let read = after_datum_in.datum-in in
-    writes_as (parts the_start.args.report.now the_start.args.v.0 _ read.ensures)
-    (writes_then first.ensures (writes_then terms.ensures after_add2.add2.ensures))
+    let first = c.add-label in
+    let terms = c.draw_terms-slash in
+    let read = c.datum_in-datum in
+    writes_as (parts c.args.report.now c.args.v.0 _ read.ensures)
+    (writes_then first.ensures (writes_then terms.ensures c.add.ensures))
 
 pub draw_node_spec : {M : Type 1} → statement M
 draw_node_spec =
@@ -81,17 +57,9 @@ draw_node_spec =
     (tie.spec
     -- datum-in-requires
     (λ c κs. search rules)
-    -- slice-aggregate-add
-    (λ c. search rules)
-    -- slice-aggregate-add-2
-    (λ c. search rules)
     -- add-requires
     (λ c κs. search rules)
     draw_terms_requires
-    -- slice-aggregate-add-3
-    (λ c. search rules)
-    -- slice-aggregate-add-4
-    (λ c. search rules)
     add_requires_2
     -- same-length
     (λ c. search rules)

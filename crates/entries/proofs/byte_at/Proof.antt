@@ -11,6 +11,6 @@ byte_at_spec =
     -- shared-slice-read-result
     (λ c. search rules)
     -- cast-result
-    (λ c. omega (arith, c.shared-slice-known.given c.before.args.place))
+    (λ c. omega (arith, c.shared_slice_known-1.given c.args.place))
     -- returns
     (λ c. search rules))

@@ -23,14 +23,14 @@ concerned_spec =
     -- enum-told-6
     (λ c. search rules)
     -- returns
-    (λ c. sym (ap (λ (s : Kind). concerned s c.before.before.args.k) c.enum_told.given.1))
+    (λ c. sym (ap (λ (s : Kind). concerned s c.args.k) c.in-Terms.is))
     -- returns-2
-    (λ c. sym (ap (λ (s : Kind). concerned s c.before.before.args.k) c.enum-told2.given.1))
+    (λ c. sym (ap (λ (s : Kind). concerned s c.args.k) c.in-Pairs.is))
     -- returns-3
-    (λ c. sym (ap (λ (s : Kind). concerned s c.before.before.args.k) c.enum-told3.given.1))
+    (λ c. sym (ap (λ (s : Kind). concerned s c.args.k) c.in-Fields.is))
     -- returns-4
-    (λ c. sym (ap (λ (s : Kind). concerned s c.before.before.args.k) c.enum-told4.given.1))
+    (λ c. sym (ap (λ (s : Kind). concerned s c.args.k) c.in-Booleans.is))
     -- returns-5
-    (λ c. sym (ap (λ (s : Kind). concerned s c.before.before.args.k) c.enum-told5.given.1))
+    (λ c. sym (ap (λ (s : Kind). concerned s c.args.k) c.in-LinkedTerms.is))
     -- returns-6
-    (λ c. sym (ap (λ (s : Kind). concerned s c.before.before.args.k) c.enum-told6.given.1)))
+    (λ c. sym (ap (λ (s : Kind). concerned s c.args.k) c.in-LinkedPairs.is)))

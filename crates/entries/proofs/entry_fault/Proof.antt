@@ -16,58 +16,58 @@ entry_fault_spec =
     -- enum_told
     (λ c. search rules)
     -- term-fault-requires
-    (λ c κs. omega (arith, (rw c.enum_told.given.1 at c.before.before.before.requires)))
+    (λ c κs. omega (arith, (rw c.in-Terms.is at c.requires)))
     -- enum-told-2
     (λ c. search rules)
     -- add-literal-fault
-    (λ c. omega (arith, (rw c.enum-told2.given.1 at c.before.before.before.requires)))
+    (λ c. omega (arith, (rw c.in-Pairs.is at c.requires)))
     -- literal-fault-requires
-    (λ c κs. (omega arith, omega (arith, (rw c.enum-told2.given.1 at c.before.before.before.requires))))
+    (λ c κs. (omega arith, omega (arith, (rw c.in-Pairs.is at c.requires))))
     -- enum-told-3
     (λ c. search rules)
     -- add-literal-fault-2
-    (λ c. omega (arith, (rw c.enum-told3.given.1 at c.before.before.before.requires)))
+    (λ c. omega (arith, (rw c.in-Fields.is at c.requires)))
     -- literal-fault-requires-2
-    (λ c κs. (omega arith, omega (arith, (rw c.enum-told3.given.1 at c.before.before.before.requires))))
+    (λ c κs. (omega arith, omega (arith, (rw c.in-Fields.is at c.requires))))
     -- enum-told-4
     (λ c. search rules)
     -- add-flag-fault
-    (λ c. omega (arith, (rw c.enum-told4.given.1 at c.before.before.before.requires)))
+    (λ c. omega (arith, (rw c.in-Booleans.is at c.requires)))
     -- flag-fault-requires
-    (λ c κs. (omega arith, omega (arith, (rw c.enum-told4.given.1 at c.before.before.before.requires))))
+    (λ c κs. (omega arith, omega (arith, (rw c.in-Booleans.is at c.requires))))
     -- enum-told-5
     (λ c. search rules)
     -- add-term-fault
-    (λ c. omega (arith, (rw c.enum-told5.given.1 at c.before.before.before.requires)))
+    (λ c. omega (arith, (rw c.in-LinkedTerms.is at c.requires)))
     -- term-fault-requires-2
-    (λ c κs. omega (arith, (rw c.enum-told5.given.1 at c.before.before.before.requires)))
+    (λ c κs. omega (arith, (rw c.in-LinkedTerms.is at c.requires)))
     -- enum-told-6
     (λ c. search rules)
     -- add-literal-fault-3
-    (λ c. omega (arith, (rw c.enum-told6.given.1 at c.before.before.before.requires)))
+    (λ c. omega (arith, (rw c.in-LinkedPairs.is at c.requires)))
     -- literal-fault-requires-3
-    (λ c κs. (omega arith, omega (arith, (rw c.enum-told6.given.1 at c.before.before.before.requires))))
+    (λ c κs. (omega arith, omega (arith, (rw c.in-LinkedPairs.is at c.requires))))
     -- returns
-    (λ c. rw c.before.enum_told.given.1
-    (c.term-fault.ensures ∙ sym (term_roles _ c.before.before.before.before.args.query.now _ _
-    (omega (arith, (rw c.before.enum_told.given.1 at c.before.before.before.before.requires))))))
+    (λ c. rw c.in-Terms.is
+    (c.term_fault.ensures ∙ sym (term_roles _ c.args.query.now _ _
+    (omega (arith, (rw c.in-Terms.is at c.requires))))))
     -- returns-2
-    (λ c. rw c.before.enum-told2.given.1
-    (c.literal-fault.ensures ∙ sym (literal_roles _ c.before.before.before.before.args.query.now _ _ _ _
-    (omega (arith, (rw c.before.enum-told2.given.1 at c.before.before.before.before.requires))))))
+    (λ c. rw c.in-Pairs.is
+    (c.literal_fault.ensures ∙ sym (literal_roles _ c.args.query.now _ _ _ _
+    (omega (arith, (rw c.in-Pairs.is at c.requires))))))
     -- returns-3
-    (λ c. rw c.before.enum-told3.given.1
-    (c.literal-fault2.ensures ∙ sym (literal_roles _ c.before.before.before.before.args.query.now _ _ _ _
-    (omega (arith, (rw c.before.enum-told3.given.1 at c.before.before.before.before.requires))))))
+    (λ c. rw c.in-Fields.is
+    (c.literal_fault-in-Fields.ensures ∙ sym (literal_roles _ c.args.query.now _ _ _ _
+    (omega (arith, (rw c.in-Fields.is at c.requires))))))
     -- returns-4
-    (λ c. rw c.before.enum-told4.given.1
-    (c.flag-fault.ensures ∙ sym (flag_roles _ c.before.before.before.before.args.query.now _ _ _
-    (omega (arith, (rw c.before.enum-told4.given.1 at c.before.before.before.before.requires))))))
+    (λ c. rw c.in-Booleans.is
+    (c.flag_fault.ensures ∙ sym (flag_roles _ c.args.query.now _ _ _
+    (omega (arith, (rw c.in-Booleans.is at c.requires))))))
     -- returns-5
-    (λ c. rw c.before.enum-told5.given.1
-    (c.term-fault2.ensures ∙ sym (linked_term_roles _ c.before.before.before.before.args.query.now _ _
-    (omega (arith, (rw c.before.enum-told5.given.1 at c.before.before.before.before.requires))))))
+    (λ c. rw c.in-LinkedTerms.is
+    (c.term_fault-in-LinkedTerms.ensures ∙ sym (linked_term_roles _ c.args.query.now _ _
+    (omega (arith, (rw c.in-LinkedTerms.is at c.requires))))))
     -- returns-6
-    (λ c. rw c.before.enum-told6.given.1
-    (c.literal-fault3.ensures ∙ sym (linked_pair-roles _ c.before.before.before.before.args.query.now _ _ _ _
-    (omega (arith, (rw c.before.enum-told6.given.1 at c.before.before.before.before.requires)))))))
+    (λ c. rw c.in-LinkedPairs.is
+    (c.literal_fault-in-LinkedPairs.ensures ∙ sym (linked_pair-roles _ c.args.query.now _ _ _ _
+    (omega (arith, (rw c.in-LinkedPairs.is at c.requires)))))))

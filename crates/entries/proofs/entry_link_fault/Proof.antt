@@ -10,12 +10,12 @@ entry_link_fault_spec =
     -- enum_told
     (λ c. search rules)
     -- term-link-fault-requires
-    (λ c κs. rw c.enum_told.given.1 at c.before.before.before.requires)
+    (λ c κs. rw c.in-Terms.is at c.requires)
     -- enum-told-2
     (λ c. search rules)
     -- pair-link-fault-requires
-    (λ c κs. rw c.enum-told2.given.1 at c.before.before.before.requires)
+    (λ c κs. rw c.in-Pairs.is at c.requires)
     -- returns
-    (λ c. rw c.before.enum_told.given.1 c.term-link-fault.ensures)
+    (λ c. rw c.in-Terms.is c.term_link_fault.ensures)
     -- returns-2
-    (λ c. rw c.before.enum-told2.given.1 c.pair-link-fault.ensures))
+    (λ c. rw c.in-Pairs.is c.pair_link_fault.ensures))

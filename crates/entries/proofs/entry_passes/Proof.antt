@@ -11,10 +11,10 @@ use Rattle.entries.proofs.entry_passes.Tie as tie
 
 -- The places that lie behind a place.
 
-abbrev enum_told_of_entry_allowed : tie.After-entry-allowed → tie.After-enum-told
+abbrev enum_told_of_entry_allowed : tie.After-entry_allowed → tie.In-Terms
 enum_told_of_entry_allowed c = c.before.before
 
-abbrev enum_told5_of_entry_allowed2 : tie.After-entry-allowed2 → tie.After-enum-told5
+abbrev enum_told5_of_entry_allowed2 : tie.After-entry_allowed-in-LinkedTerms → tie.In-LinkedTerms
 enum_told5_of_entry_allowed2 c = c.before.before
 
 pub entry_passes_spec : {M : Type 1} → statement M
@@ -25,68 +25,68 @@ entry_passes_spec =
     -- enum_told
     (λ c. search rules)
     -- byte-at-requires
-    (λ c κs. omega (arith, (rw c.enum_told.given.1 at c.before.before.before.requires)))
+    (λ c κs. omega (arith, (rw c.in-Terms.is at c.requires)))
     -- entry-allowed-requires
     (λ c κs. search rules)
     -- enum-told-2
     (λ c. search rules)
     -- add-literal-passes
-    (λ c. omega (arith, (rw c.enum-told2.given.1 at c.before.before.before.requires)))
+    (λ c. omega (arith, (rw c.in-Pairs.is at c.requires)))
     -- literal-passes-requires
-    (λ c κs. (omega arith, omega (arith, (rw c.enum-told2.given.1 at c.before.before.before.requires))))
+    (λ c κs. (omega arith, omega (arith, (rw c.in-Pairs.is at c.requires))))
     -- enum-told-3
     (λ c. search rules)
     -- add-literal-passes-2
-    (λ c. omega (arith, (rw c.enum-told3.given.1 at c.before.before.before.requires)))
+    (λ c. omega (arith, (rw c.in-Fields.is at c.requires)))
     -- literal-passes-requires-2
-    (λ c κs. (omega arith, omega (arith, (rw c.enum-told3.given.1 at c.before.before.before.requires))))
+    (λ c κs. (omega arith, omega (arith, (rw c.in-Fields.is at c.requires))))
     -- enum-told-4
     (λ c. search rules)
     -- add-flag-passes
-    (λ c. omega (arith, (rw c.enum-told4.given.1 at c.before.before.before.requires)))
+    (λ c. omega (arith, (rw c.in-Booleans.is at c.requires)))
     -- flag-passes-requires
-    (λ c κs. (omega arith, omega (arith, (rw c.enum-told4.given.1 at c.before.before.before.requires))))
+    (λ c κs. (omega arith, omega (arith, (rw c.in-Booleans.is at c.requires))))
     -- enum-told-5
     (λ c. search rules)
     -- add-byte-at
-    (λ c. omega (arith, (rw c.enum-told5.given.1 at c.before.before.before.requires)))
+    (λ c. omega (arith, (rw c.in-LinkedTerms.is at c.requires)))
     -- byte-at-requires-2
-    (λ c κs. omega (arith, (rw c.enum-told5.given.1 at c.before.before.before.requires)))
+    (λ c κs. omega (arith, (rw c.in-LinkedTerms.is at c.requires)))
     -- entry-allowed-requires-2
     (λ c κs. search rules)
     -- enum-told-6
     (λ c. search rules)
     -- add-literal-passes-3
-    (λ c. omega (arith, (rw c.enum-told6.given.1 at c.before.before.before.requires)))
+    (λ c. omega (arith, (rw c.in-LinkedPairs.is at c.requires)))
     -- literal-passes-requires-3
-    (λ c κs. (omega arith, omega (arith, (rw c.enum-told6.given.1 at c.before.before.before.requires))))
+    (λ c κs. (omega arith, omega (arith, (rw c.in-LinkedPairs.is at c.requires))))
     -- returns
-    (λ c. rw (enum_told_of_entry_allowed c).enum_told.given.1
-    (λ h k. term_roles k (enum_told_of_entry_allowed c).before.before.before.args.query.now _ _
-    (omega (arith, (rw c.before.before.enum_told.given.1 at c.before.before.before.before.before.requires)))
-    ∙ byte_passes (enum_told_of_entry_allowed c).before.before.before.args.query.now _ _ c.entry-allowed.ensures c.before.byte_at.ensures h k))
+    (λ c. rw (enum_told_of_entry_allowed c).in-Terms.is
+    (λ h k. term_roles k (enum_told_of_entry_allowed c).args.query.now _ _
+    (omega (arith, (rw c.in-Terms.is at c.requires)))
+    ∙ byte_passes (enum_told_of_entry_allowed c).args.query.now _ _ c.entry_allowed.ensures c.byte_at.ensures h k))
     -- returns-2
-    (λ c. rw c.before.enum-told2.given.1
-    (λ h k. literal_roles k c.before.before.before.before.args.query.now _ _ _ _
-    (omega (arith, (rw c.before.enum-told2.given.1 at c.before.before.before.before.requires)))
-    ∙ literal_passes c.before.before.before.before.args.query.now 7 _ _ _ _ c.literal-passes.ensures h k))
+    (λ c. rw c.in-Pairs.is
+    (λ h k. literal_roles k c.args.query.now _ _ _ _
+    (omega (arith, (rw c.in-Pairs.is at c.requires)))
+    ∙ literal_passes c.args.query.now 7 _ _ _ _ c.literal_passes.ensures h k))
     -- returns-3
-    (λ c. rw c.before.enum-told3.given.1
-    (λ h k. literal_roles k c.before.before.before.before.args.query.now _ _ _ _
-    (omega (arith, (rw c.before.enum-told3.given.1 at c.before.before.before.before.requires)))
-    ∙ literal_passes c.before.before.before.before.args.query.now 8 _ _ _ _ c.literal-passes2.ensures h k))
+    (λ c. rw c.in-Fields.is
+    (λ h k. literal_roles k c.args.query.now _ _ _ _
+    (omega (arith, (rw c.in-Fields.is at c.requires)))
+    ∙ literal_passes c.args.query.now 8 _ _ _ _ c.literal_passes-in-Fields.ensures h k))
     -- returns-4
-    (λ c. rw c.before.enum-told4.given.1
-    (λ h k. flag_roles k c.before.before.before.before.args.query.now _ _ _
-    (omega (arith, (rw c.before.enum-told4.given.1 at c.before.before.before.before.requires)))
-    ∙ flag_passes c.before.before.before.before.args.query.now 8 _ _ _ c.flag-passes.ensures h k))
+    (λ c. rw c.in-Booleans.is
+    (λ h k. flag_roles k c.args.query.now _ _ _
+    (omega (arith, (rw c.in-Booleans.is at c.requires)))
+    ∙ flag_passes c.args.query.now 8 _ _ _ c.flag_passes.ensures h k))
     -- returns-5
-    (λ c. rw (enum_told5_of_entry_allowed2 c).enum-told5.given.1
-    (λ h k. linked_term_roles k (enum_told5_of_entry_allowed2 c).before.before.before.args.query.now _ _
-    (omega (arith, (rw c.before.before.enum-told5.given.1 at c.before.before.before.before.before.requires)))
-    ∙ byte_passes (enum_told5_of_entry_allowed2 c).before.before.before.args.query.now _ _ c.entry-allowed2.ensures c.before.byte-at2.ensures h k))
+    (λ c. rw (enum_told5_of_entry_allowed2 c).in-LinkedTerms.is
+    (λ h k. linked_term_roles k (enum_told5_of_entry_allowed2 c).args.query.now _ _
+    (omega (arith, (rw c.in-LinkedTerms.is at c.requires)))
+    ∙ byte_passes (enum_told5_of_entry_allowed2 c).args.query.now _ _ c.entry_allowed-in-LinkedTerms.ensures c.byte_at-in-LinkedTerms.ensures h k))
     -- returns-6
-    (λ c. rw c.before.enum-told6.given.1
-    (λ h k. linked_pair-roles k c.before.before.before.before.args.query.now _ _ _ _
-    (omega (arith, (rw c.before.enum-told6.given.1 at c.before.before.before.before.requires)))
-    ∙ literal_passes c.before.before.before.before.args.query.now 7 _ _ _ _ c.literal-passes3.ensures h k)))
+    (λ c. rw c.in-LinkedPairs.is
+    (λ h k. linked_pair-roles k c.args.query.now _ _ _ _
+    (omega (arith, (rw c.in-LinkedPairs.is at c.requires)))
+    ∙ literal_passes c.args.query.now 7 _ _ _ _ c.literal_passes-in-LinkedPairs.ensures h k)))

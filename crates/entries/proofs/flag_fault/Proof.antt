@@ -8,16 +8,16 @@ use Rattle.entries.proofs.flag_fault.Tie as tie
 
 -- The places that lie behind a place.
 
-abbrev start_of_byte_at : tie.After-byte-at → tie.Start
+abbrev start_of_byte_at : tie.After-byte_at → tie.Start
 start_of_byte_at c = c.before.before
 
-abbrev byte_at2_of_else2 : tie.Else2 → tie.After-byte-at2
+abbrev byte_at2_of_else2 : tie.Else-number_refused → tie.After-byte_at-2
 byte_at2_of_else2 c = c.before.before
 
-abbrev byte_at_of_then1 : tie.Then1 → tie.After-byte-at
+abbrev byte_at_of_then1 : tie.Then-sign_refused → tie.After-byte_at
 byte_at_of_then1 c = c.before.before
 
-abbrev byte_at2_of_then2 : tie.Then2 → tie.After-byte-at2
+abbrev byte_at2_of_then2 : tie.Then-number_refused → tie.After-byte_at-2
 byte_at2_of_then2 c = c.before.before
 
 pub flag_fault_spec : {M : Type 1} → statement M
@@ -33,24 +33,24 @@ flag_fault_spec =
     let after_byte_at = byte_at_of_then1 c in
     let bytes = (start_of_byte_at after_byte_at).args.query.now in
     sym
-    (or_else-some _ (fault_at_lem _ _ bytes _ (tested _ _ c.before.sign-refused.ensures after_byte_at.byte_at.ensures c.if1.true))))
+    (or_else-some _ (fault_at_lem _ _ bytes _ (tested _ _ c.sign_refused.ensures after_byte_at.byte_at.ensures c.if-sign_refused.true))))
     -- byte-at-requires-2
     (λ c κs. omega arith)
     -- number-refused-requires
     (λ c κs. search rules)
     -- returns-2
     (λ c.
-    let after_byte_at2 = byte_at2_of_then2 c in let else1 = after_byte_at2.before in let after_sign_refused = else1.before in
-    let after_byte_at = after_sign_refused.before in
-    let bytes = (start_of_byte_at after_byte_at).args.query.now in
+    let after_byte_at2 = byte_at2_of_then2 c in let else1 = after_byte_at2 in let after_sign_refused = else1 in
+    let after_byte_at = after_sign_refused in
+    let bytes = (start_of_byte_at after_byte_at.before.before.before).args.query.now in
     sym
-    (or_else_next _ (no_fault_at _ _ bytes _ (tested _ _ after_sign_refused.sign-refused.ensures after_byte_at.byte_at.ensures else1.if1.left))
-    ∙ fault_at_lem _ _ bytes _ (tested _ _ c.before.number-refused.ensures after_byte_at2.byte-at2.ensures c.if2.true)))
+    (or_else_next _ (no_fault_at _ _ bytes _ (tested _ _ after_sign_refused.sign_refused.ensures after_byte_at.byte_at.ensures else1.if-sign_refused.false))
+    ∙ fault_at_lem _ _ bytes _ (tested _ _ c.number_refused.ensures after_byte_at2.byte_at-2.ensures c.if-number_refused.true)))
     -- returns-3
     (λ c.
-    let after_byte_at2 = byte_at2_of_else2 c in let else1 = after_byte_at2.before in let after_sign_refused = else1.before in
-    let after_byte_at = after_sign_refused.before in
-    let bytes = (start_of_byte_at after_byte_at).args.query.now in
+    let after_byte_at2 = byte_at2_of_else2 c in let else1 = after_byte_at2 in let after_sign_refused = else1 in
+    let after_byte_at = after_sign_refused in
+    let bytes = (start_of_byte_at after_byte_at.before.before.before).args.query.now in
     sym
-    (or_else_next _ (no_fault_at _ _ bytes _ (tested _ _ after_sign_refused.sign-refused.ensures after_byte_at.byte_at.ensures else1.if1.left))
-    ∙ no_fault_at _ _ bytes _ (tested _ _ c.before.number-refused.ensures after_byte_at2.byte-at2.ensures c.if2.false))))
+    (or_else_next _ (no_fault_at _ _ bytes _ (tested _ _ after_sign_refused.sign_refused.ensures after_byte_at.byte_at.ensures else1.if-sign_refused.false))
+    ∙ no_fault_at _ _ bytes _ (tested _ _ c.number_refused.ensures after_byte_at2.byte_at-2.ensures c.if-number_refused.false))))

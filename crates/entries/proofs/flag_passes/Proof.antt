@@ -6,7 +6,7 @@ use Rattle.entries.proofs.flag_passes.Tie as tie
 
 -- The places that lie behind a place.
 
-abbrev sign_allowed_of_number_allowed : tie.After-number-allowed → tie.After-sign-allowed
+abbrev sign_allowed_of_number_allowed : tie.After-number_allowed-number → tie.After-sign_allowed-sign
 sign_allowed_of_number_allowed c = c.before.before
 
 pub flag_passes_spec : {M : Type 1} → statement M
@@ -22,4 +22,4 @@ flag_passes_spec =
     -- number-allowed-requires
     (λ c κs. search rules)
     -- returns
-    (λ c. rw (c.number-allowed.ensures, c.before.byte-at2.ensures, (sign_allowed_of_number_allowed c).sign-allowed.ensures, (sign_allowed_of_number_allowed c).before.byte_at.ensures)))
+    (λ c. rw (c.number_allowed-number.ensures, c.byte_at-2.ensures, (sign_allowed_of_number_allowed c).sign_allowed-sign.ensures, (sign_allowed_of_number_allowed c).byte_at.ensures)))

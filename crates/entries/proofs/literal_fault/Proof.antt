@@ -11,17 +11,17 @@ use Rattle.entries.proofs.literal_fault.Tie as tie
 
 -- The places that lie behind a place.
 
-abbrev start_of_flag_fault : tie.After-flag-fault → tie.Start
+abbrev start_of_flag_fault : tie.After-flag_fault → tie.Start
 start_of_flag_fault c = c.before.before
 
-abbrev byte_at_of_else1 : tie.Else1 → tie.After-byte-at
+abbrev byte_at_of_else1 : tie.Else-number_refused → tie.After-byte_at
 byte_at_of_else1 c = c.before.before
 
-abbrev byte_at_of_then1 : tie.Then1 → tie.After-byte-at
+abbrev byte_at_of_then1 : tie.Then-number_refused → tie.After-byte_at
 byte_at_of_then1 c = c.before.before
 
-abbrev flag_fault_of_enum_told : tie.After-enum-told → tie.After-flag-fault
-flag_fault_of_enum_told c = c.before.before
+abbrev flag_fault_of_enum_told : tie.In-Nothing → tie.After-flag_fault
+flag_fault_of_enum_told c = c.before
 
 pub literal_fault_spec : {M : Type 1} → statement M
 unfolding term_role counted_role
@@ -33,7 +33,7 @@ literal_fault_spec =
     -- enum-known-p
     (λ c. search rules)
     -- returns
-    (λ c. sym (or_else-some _ (sym c.before.before.before.flag-fault.ensures ∙ ap found_of c.before.p.given.1)))
+    (λ c. sym (or_else-some _ (sym c.flag_fault.ensures ∙ ap found_of c.in-At.is)))
     -- enum_told
     (λ c. search rules)
     -- add-right
@@ -44,15 +44,15 @@ literal_fault_spec =
     (λ c κs. search rules)
     -- returns-2
     (λ c.
-    let after_byte_at = byte_at_of_then1 c in let after_enum_told = after_byte_at.before in
-    let after_flag_fault = flag_fault_of_enum_told after_enum_told in
+    let after_byte_at = byte_at_of_then1 c in let after_enum_told = after_byte_at in
+    let after_flag_fault = flag_fault_of_enum_told after_enum_told.before in
     sym
-    (or_else_next _ (sym after_flag_fault.flag-fault.ensures ∙ ap found_of after_enum_told.enum_told.given.1)
-    ∙ fault_at_lem _ _ (start_of_flag_fault after_flag_fault).args.query.now _ (tested _ _ c.before.number-refused.ensures after_byte_at.byte_at.ensures c.if1.true)))
+    (or_else_next _ (sym after_flag_fault.flag_fault.ensures ∙ ap found_of after_enum_told.in-Nothing.is)
+    ∙ fault_at_lem _ _ (start_of_flag_fault after_flag_fault).args.query.now _ (tested _ _ c.number_refused.ensures after_byte_at.byte_at.ensures c.if-number_refused.true)))
     -- returns-3
     (λ c.
-    let after_byte_at = byte_at_of_else1 c in let after_enum_told = after_byte_at.before in
-    let after_flag_fault = flag_fault_of_enum_told after_enum_told in
+    let after_byte_at = byte_at_of_else1 c in let after_enum_told = after_byte_at in
+    let after_flag_fault = flag_fault_of_enum_told after_enum_told.before in
     sym
-    (or_else_next _ (sym after_flag_fault.flag-fault.ensures ∙ ap found_of after_enum_told.enum_told.given.1)
-    ∙ no_fault_at _ _ (start_of_flag_fault after_flag_fault).args.query.now _ (tested _ _ c.before.number-refused.ensures after_byte_at.byte_at.ensures c.if1.false))))
+    (or_else_next _ (sym after_flag_fault.flag_fault.ensures ∙ ap found_of after_enum_told.in-Nothing.is)
+    ∙ no_fault_at _ _ (start_of_flag_fault after_flag_fault).args.query.now _ (tested _ _ c.number_refused.ensures after_byte_at.byte_at.ensures c.if-number_refused.false))))

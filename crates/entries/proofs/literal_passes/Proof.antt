@@ -17,4 +17,4 @@ literal_passes_spec =
     -- number-allowed-requires
     (λ c κs. search rules)
     -- returns
-    (λ c. rw (c.number-allowed.ensures, c.before.byte_at.ensures, c.before.before.flag-passes.ensures)))
+    (λ c. rw (c.number_allowed-right.ensures, c.byte_at.ensures, c.flag_passes-flag.ensures)))

@@ -9,7 +9,7 @@ use Rattle.entries.proofs.pair_link_fault.Tie as tie
 
 -- The places that lie behind a place.
 
-abbrev start_of_is_link : tie.After-is-link → tie.Start
+abbrev start_of_is_link : tie.After-is_link → tie.Start
 start_of_is_link c = c.before.before.before
 
 pub pair_link_fault_spec : {M : Type 1} → statement M
@@ -24,6 +24,6 @@ pair_link_fault_spec =
     -- is-link-requires
     (λ c κs. search rules)
     -- returns
-    (λ c. sym (pair_tested (start_of_is_link c.before).args.query.now _ c.before.is-link.ensures c.before.before.byte_at.ensures c.if1.true))
+    (λ c. sym (pair_tested (start_of_is_link c.before).args.query.now _ c.is_link.ensures c.byte_at.ensures c.if-is_link.true))
     -- returns-2
-    (λ c. sym (pair_tested (start_of_is_link c.before).args.query.now _ c.before.is-link.ensures c.before.before.byte_at.ensures c.if1.false)))
+    (λ c. sym (pair_tested (start_of_is_link c.before).args.query.now _ c.is_link.ensures c.byte_at.ensures c.if-is_link.false)))

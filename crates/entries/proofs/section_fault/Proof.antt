@@ -13,38 +13,38 @@ use Rattle.entries.proofs.Faults.{room_next, entries_left, entry_end, entry_here
 use Rattle.entries.proofs.section_fault.Statement.{statement}
 use Rattle.entries.proofs.section_fault.Tie as tie
 
-abbrev invariant-loop : tie.invariant-loop
-invariant-loop k kind n query at count step place₀ i₀ place i =
+abbrev invariant-loop-i : tie.invariant-loop-i
+invariant-loop-i k kind n query at count step place₀ i₀ place i =
     (place + (count - i) * width_of kind ≤ length query)
     × (section_fault k kind n at count query ≡ role_fault k place (entries_left (roles_at kind n) count i) (drop place query))
 
-abbrev decreases-loop : tie.decreases-loop
-decreases-loop k kind n query at count step place₀ i₀ place i = count - i
+abbrev decreases-loop-i : tie.decreases-loop-i
+decreases-loop-i k kind n query at count step place₀ i₀ place i = count - i
 
 -- The places that lie behind a place.
 
-abbrev entry_fault_of_enum_told : tie.After-enum-told invariant-loop decreases-loop → tie.After-entry-fault invariant-loop decreases-loop
-entry_fault_of_enum_told c = c.before.before
+abbrev entry_fault_of_enum_told : tie.In-Nothing invariant-loop-i decreases-loop-i → tie.After-entry_fault invariant-loop-i decreases-loop-i
+entry_fault_of_enum_told c = c.before
 
-abbrev width_of_in_loop : tie.In-loop invariant-loop decreases-loop → tie.After-width invariant-loop decreases-loop
+abbrev width_of_in_loop : tie.In-loop-i invariant-loop-i decreases-loop-i → tie.After-width-step invariant-loop-i decreases-loop-i
 width_of_in_loop c = c.before.before
 
-abbrev in_loop_of_enum_told : tie.After-enum-told invariant-loop decreases-loop → tie.In-loop invariant-loop decreases-loop
+abbrev in_loop_of_enum_told : tie.In-Nothing invariant-loop-i decreases-loop-i → tie.In-loop-i invariant-loop-i decreases-loop-i
 in_loop_of_enum_told c = (entry_fault_of_enum_told c).before
 
-abbrev start_of_width : tie.After-width invariant-loop decreases-loop → tie.Start invariant-loop decreases-loop
+abbrev start_of_width : tie.After-width-step invariant-loop-i decreases-loop-i → tie.Start invariant-loop-i decreases-loop-i
 start_of_width c = c.before.before.before.before
 
 pub section_fault_spec : {M : Type 1} → statement M
 section_fault_spec =
     tie.close
     (tie.spec
-    invariant-loop
-    decreases-loop
+    invariant-loop-i
+    decreases-loop-i
     -- concerned-requires
     (λ c κs. search rules)
     -- returns
-    (λ c. sym (section_free _ _ _ _ _ _ (sym c.before.concerned.ensures ∙ not-true _ c.if1.true)))
+    (λ c. sym (section_free _ _ _ _ _ _ (sym c.concerned.ensures ∙ c.if-not-concerned.true)))
     -- width-requires
     (λ c κs. search rules)
     -- loop-holds
@@ -54,38 +54,38 @@ section_fault_spec =
     -- entry-fault-requires
     (λ c κs.
     let start = start_of_width (width_of_in_loop c) in
-    omega (arith, room_next start.args.count c.before.loop.i (width_of start.args.kind) c.loop-test.true))
+    omega (arith, room_next start.args.count c.loop-i.i (width_of start.args.kind) c.loop-i-test.true))
     -- enum-known-p
     (λ c. search rules)
     -- returns-2
     (λ c.
-    let after_entry_fault = c.before.before.before in let in_loop = after_entry_fault.before in
-    let start = start_of_width (width_of_in_loop in_loop) in
-    sym (in_loop.before.loop.invariant.1 ∙ entry_here _ start.args.kind _ _ start.args.query.now _ _ _ in_loop.loop-test.true
-    (sym after_entry_fault.entry-fault.ensures ∙ ap found_of c.before.p.given.1)))
+    let after_entry_fault = c in let in_loop = after_entry_fault in
+    let start = start_of_width (width_of_in_loop in_loop.before.before) in
+    sym (in_loop.loop-i.invariant.1 ∙ entry_here _ start.args.kind _ _ start.args.query.now _ _ _ in_loop.loop-i-test.true
+    (sym after_entry_fault.entry_fault.ensures ∙ ap found_of c.in-At.is)))
     -- enum_told
     (λ c. search rules)
     -- add-place
     (λ c.
     let in_loop = in_loop_of_enum_told c in let after_width = width_of_in_loop in_loop in let start = start_of_width after_width in
-    omega (arith, after_width.width.ensures, room_next start.args.count in_loop.before.loop.i (width_of start.args.kind) in_loop.loop-test.taken))
+    omega (arith, after_width.width-step.ensures, room_next start.args.count in_loop.loop-i.i (width_of start.args.kind) in_loop.loop-i-test.true))
     -- add-i
     (λ c. omega arith)
     -- loop-less
     (λ c. omega arith)
     -- loop-again
-    (λ c. rw (width_of_in_loop (in_loop_of_enum_told c)).width.ensures (
+    (λ c. rw (width_of_in_loop (in_loop_of_enum_told c)).width-step.ensures (
       omega (
         arith,
-        (in_loop_of_enum_told c).before.loop.invariant.0,
-        room_next (start_of_width (width_of_in_loop (in_loop_of_enum_told c))).args.count (in_loop_of_enum_told c).before.loop.i
-            (width_of (start_of_width (width_of_in_loop (in_loop_of_enum_told c))).args.kind) (in_loop_of_enum_told c).loop-test.true,
+        (in_loop_of_enum_told c).loop-i.invariant.0,
+        room_next (start_of_width (width_of_in_loop (in_loop_of_enum_told c))).args.count (in_loop_of_enum_told c).loop-i.i
+            (width_of (start_of_width (width_of_in_loop (in_loop_of_enum_told c))).args.kind) (in_loop_of_enum_told c).loop-i-test.true,
       ),
-      (in_loop_of_enum_told c).before.loop.invariant.1 ∙ entry_next _ (start_of_width (width_of_in_loop (in_loop_of_enum_told c))).args.kind _ _
-          (start_of_width (width_of_in_loop (in_loop_of_enum_told c))).args.query.now _ _ (in_loop_of_enum_told c).loop-test.true
-          (sym (entry_fault_of_enum_told c).entry-fault.ensures ∙ ap found_of c.enum_told.given.1),
+      (in_loop_of_enum_told c).loop-i.invariant.1 ∙ entry_next _ (start_of_width (width_of_in_loop (in_loop_of_enum_told c))).args.kind _ _
+          (start_of_width (width_of_in_loop (in_loop_of_enum_told c))).args.query.now _ _ (in_loop_of_enum_told c).loop-i-test.true
+          (sym (entry_fault_of_enum_told c).entry_fault.ensures ∙ ap found_of c.in-Nothing.is),
     ))
     -- returns-3
     (λ c.
     let start = start_of_width c.before.before in
-    sym (c.before.loop.invariant.1 ∙ entry_end _ start.args.kind _ _ start.args.query.now _ _ c.loop-test.false)))
+    sym (c.loop-i.invariant.1 ∙ entry_end _ start.args.kind _ _ start.args.query.now _ _ c.loop-i-test.false)))

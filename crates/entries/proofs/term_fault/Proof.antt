@@ -8,7 +8,7 @@ use Rattle.entries.proofs.term_fault.Tie as tie
 
 -- The places that lie behind a place.
 
-abbrev start_of_entry_refused : tie.After-entry-refused → tie.Start
+abbrev start_of_entry_refused : tie.After-entry_refused → tie.Start
 start_of_entry_refused c = c.before.before.before
 
 pub term_fault_spec : {M : Type 1} → statement M
@@ -20,6 +20,6 @@ term_fault_spec =
     -- entry-refused-requires
     (λ c κs. search rules)
     -- returns
-    (λ c. sym (fault_at_lem _ _ (start_of_entry_refused c.before).args.query.now _ (tested _ _ c.before.entry-refused.ensures c.before.before.byte_at.ensures c.if1.true)))
+    (λ c. sym (fault_at_lem _ _ (start_of_entry_refused c.before).args.query.now _ (tested _ _ c.entry_refused.ensures c.byte_at.ensures c.if-entry_refused.true)))
     -- returns-2
-    (λ c. sym (no_fault_at _ _ (start_of_entry_refused c.before).args.query.now _ (tested _ _ c.before.entry-refused.ensures c.before.before.byte_at.ensures c.if1.false))))
+    (λ c. sym (no_fault_at _ _ (start_of_entry_refused c.before).args.query.now _ (tested _ _ c.entry_refused.ensures c.byte_at.ensures c.if-entry_refused.false))))

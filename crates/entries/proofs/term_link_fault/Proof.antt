@@ -9,13 +9,13 @@ use Rattle.entries.proofs.term_link_fault.Tie as tie
 
 -- The places that lie behind a place.
 
-abbrev byte_at2_of_then1 : tie.Then1 → tie.After-byte-at2
+abbrev byte_at2_of_then1 : tie.Then-may_precede → tie.After-byte_at
 byte_at2_of_then1 c = c.before.before
 
-abbrev start_of_byte_at : tie.After-byte-at → tie.Start
+abbrev start_of_byte_at : tie.After-byte_at-link → tie.Start
 start_of_byte_at c = c.before.before
 
-abbrev byte_at2_of_else1 : tie.Else1 → tie.After-byte-at2
+abbrev byte_at2_of_else1 : tie.Else-may_precede → tie.After-byte_at
 byte_at2_of_else1 c = c.before.before
 
 pub term_link_fault_spec : {M : Type 1} → statement M
@@ -33,9 +33,9 @@ term_link_fault_spec =
     (λ c κs. search rules)
     -- returns
     (λ c.
-    let after_byte_at2 = byte_at2_of_then1 c in let after_byte_at = after_byte_at2.before in
-    sym (term_tested (start_of_byte_at after_byte_at).args.query.now _ c.before.may-precede.ensures after_byte_at.byte_at.ensures after_byte_at2.byte-at2.ensures c.if1.true))
+    let after_byte_at2 = byte_at2_of_then1 c in let after_byte_at = after_byte_at2 in
+    sym (term_tested (start_of_byte_at after_byte_at.before).args.query.now _ c.may_precede.ensures after_byte_at.byte_at-link.ensures after_byte_at2.byte_at.ensures c.if-may_precede.true))
     -- returns-2
     (λ c.
-    let after_byte_at2 = byte_at2_of_else1 c in let after_byte_at = after_byte_at2.before in
-    sym (term_tested (start_of_byte_at after_byte_at).args.query.now _ c.before.may-precede.ensures after_byte_at.byte_at.ensures after_byte_at2.byte-at2.ensures c.if1.false)))
+    let after_byte_at2 = byte_at2_of_else1 c in let after_byte_at = after_byte_at2 in
+    sym (term_tested (start_of_byte_at after_byte_at.before).args.query.now _ c.may_precede.ensures after_byte_at.byte_at-link.ensures after_byte_at2.byte_at.ensures c.if-may_precede.false)))

@@ -11,6 +11,6 @@ links_spec =
     tie.close
     (tie.spec
     -- returns
-    (λ c. (sym (ap (λ (b : Bool). cond {A = ℕ} b 1 3) c.if1.true), omega arith, omega arith))
+    (λ c. (sym (ap (λ (b : Bool). cond {A = ℕ} b 1 3) c.if-single.true), omega arith, omega arith))
     -- returns-2
-    (λ c. (sym (ap (λ (b : Bool). cond {A = ℕ} b 1 3) c.if1.false), omega arith, omega arith)))
+    (λ c. (sym (ap (λ (b : Bool). cond {A = ℕ} b 1 3) c.if-single.false), omega arith, omega arith)))

@@ -10,21 +10,21 @@ use Rattle.facts.proofs.Alive.{itself, itself_more, live_all}
 use Rattle.facts.proofs.live.Statement.{statement}
 use Rattle.facts.proofs.live.Tie as tie
 
-abbrev invariant-loop : tie.invariant-loop
-invariant-loop rep n out₀ t₀ out t = (t ≤ 17) × Filled (itself rep) (bit 0) t (bit out)
+abbrev invariant-loop-t : tie.invariant-loop-t
+invariant-loop-t rep n out₀ t₀ out t = (t ≤ 17) × Filled (itself rep) (bit 0) t (bit out)
 
-abbrev decreases-loop : tie.decreases-loop
-decreases-loop rep n out₀ t₀ out t = 17 - t
+abbrev decreases-loop-t : tie.decreases-loop-t
+decreases-loop-t rep n out₀ t₀ out t = 17 - t
 
-whole : (c : tie.After-loop invariant-loop decreases-loop) → c.before.loop.t ≡ 17
+whole : (c : tie.After-loop-t invariant-loop-t decreases-loop-t) → c.loop-t.t ≡ 17
 whole c = omega arith
 
 pub live_spec : {M : Type 1} → statement M
 live_spec =
     tie.close
     (tie.spec
-    invariant-loop
-    decreases-loop
+    invariant-loop-t
+    decreases-loop-t
     -- loop-holds
     (λ c. (omega arith, filled_none _ _))
     -- element-copy-out-wide
@@ -39,9 +39,9 @@ live_spec =
     (λ c. omega arith)
     -- loop-again
     (λ c.
-    let l = c.before.before.before.before.loop in
-    (omega arith, itself_more _ l.t (omega arith) l.out _ _ (ap (λ (r : ℕ). eqb r l.t) c.before.wide.ensures.0) c.with.ensures l.invariant.1))
+    let l = c.loop-t in
+    (omega arith, itself_more _ l.t (omega arith) l.out _ _ (ap (λ (r : ℕ). eqb r l.t) c.wide-to.ensures.0) c.with-out.ensures l.invariant.1))
     -- term-row-requires
     (λ c κs. search rules)
     -- returns
-    (λ c. live_all _ (omega arith) _ _ _ c.term-row.ensures (rw (whole c.before) at c.before.before.loop.invariant.1)))
+    (λ c. live_all _ (omega arith) _ _ _ c.term_row.ensures (rw (whole c.before) at c.loop-t.invariant.1)))

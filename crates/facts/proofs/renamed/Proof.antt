@@ -8,6 +8,6 @@ renamed_spec =
     tie.close
     (tie.spec
     -- returns
-    (λ c. rw (eq-eqb _ _ c.if1.true))
+    (λ c. rw (eq-eqb _ _ c.if-t-hi.true))
     -- returns-2
-    (λ c. rw (ne_eqb _ _ c.if1.false)))
+    (λ c. rw (ne_eqb _ _ c.if-t-hi.false)))

@@ -10,21 +10,21 @@ use Rattle.rows.proofs.Fill.{Filled, filled_none}
 use Rattle.facts.proofs.replace_rep.Statement.{statement}
 use Rattle.facts.proofs.replace_rep.Tie as tie
 
-abbrev invariant-loop : tie.invariant-loop
-invariant-loop rep₀ low high t₀ rep t = (t ≤ 17) × (length rep ≡ 17) × Filled (replace_rep low high (rep_of rep₀)) (rep_of rep₀) t (rep_of rep)
+abbrev invariant-loop-t : tie.invariant-loop-t
+invariant-loop-t rep₀ low high t₀ rep t = (t ≤ 17) × (length rep ≡ 17) × Filled (replace_rep low high (rep_of rep₀)) (rep_of rep₀) t (rep_of rep)
 
-abbrev decreases-loop : tie.decreases-loop
-decreases-loop rep₀ low high t₀ rep t = 17 - t
+abbrev decreases-loop-t : tie.decreases-loop-t
+decreases-loop-t rep₀ low high t₀ rep t = 17 - t
 
-whole : (c : tie.After-loop invariant-loop decreases-loop) → c.before.loop.t ≡ 17
+whole : (c : tie.After-loop-t invariant-loop-t decreases-loop-t) → c.loop-t.t ≡ 17
 whole c = omega arith
 
 pub replace_rep_spec : {M : Type 1} → statement M
 replace_rep_spec =
     tie.close
     (tie.spec
-    invariant-loop
-    decreases-loop
+    invariant-loop-t
+    decreases-loop-t
     -- cast-low
     (λ c. omega arith)
     -- cast-high
@@ -43,10 +43,10 @@ replace_rep_spec =
     (λ c. omega arith)
     -- loop-again
     (λ c.
-    let l = c.before.before.before.loop in (
+    let l = c.loop-t in (
       omega arith,
       simp length-set l.invariant.1,
       renamed_more _ _ _ l.t (omega arith) l.rep l.invariant.1 c.renamed.result c.renamed.ensures l.invariant.2,
     ))
     -- returns
-    (λ c. (renamed_all _ _ _ (omega arith) _ (rw (whole c) at c.before.loop.invariant.2), c.before.loop.invariant.1)))
+    (λ c. (renamed_all _ _ _ (omega arith) _ (rw (whole c) at c.loop-t.invariant.2), c.loop-t.invariant.1)))

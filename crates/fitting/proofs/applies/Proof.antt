@@ -15,9 +15,9 @@ applies_spec =
     tie.close
     (tie.spec
     -- rows-of-requires
-    (λ c κs. let p = c.before.before.requires.1 in (p.0, link_few c.before.before.args.t1 _ p))
+    (λ c κs. let p = c.requires.1 in (p.0, link_few c.args.s _ p))
     -- rows-of-requires-2
-    (λ c κs. let p = c.before.before.before.before.before.requires.1 in (p.0, link_few c.before.before.before.before.before.args.t1 _ p))
+    (λ c κs. let p = c.requires.1 in (p.0, link_few c.args.s _ p))
     -- is-not-cycle-requires
     (λ c κs. search rules)
     -- is-live-requires
@@ -26,17 +26,17 @@ applies_spec =
     (λ c κs. search rules)
     -- returns
     (λ c.
-    let a = c.before.before.before.before.before.before.before.before.before.before.before.before.args in
-    let p = c.before.before.before.before.before.before.before.before.before.before.before.before.requires in
-    let h = sym c.before.before.before.before.before.is-not-cycle.ensures ∙ c.before.before.before.before.if1.true in
-    applies_halves a.n a.t1 _ p.1 _ _ c.before.before.before.before.before.before.before.before.before.rows_of.ensures
-    c.before.before.before.before.before.before.rows-of2.ensures (kind_of a.rule) _ _ _ h _
-    (c.is-allowed.ensures (live a.n (path_of a.t1)) c.before.before.before.is_live.ensures h))
+    let a = c.args in
+    let p = c.requires in
+    let h = sym c.is_not_cycle.ensures ∙ c.if-is_not_cycle.true in
+    applies_halves a.n a.s _ p.1 _ _ c.rows_of-link.ensures
+    c.rows_of-reach.ensures (kind_of a.rule) _ _ _ h _
+    (c.is_allowed.ensures (live a.n (path_of a.s)) c.is_live-alive.ensures h))
     -- is-round-requires
     (λ c κs. search rules)
     -- returns-2
     (λ c.
-    let a = c.before.before.before.before.before.before.before.before.before.before.before.args in
-    let p = c.before.before.before.before.before.before.before.before.before.before.before.requires in
-    applies-cycle a.n a.t1 _ p.1 _ _ c.before.before.before.before.before.before.before.before.rows_of.ensures c.before.before.before.before.before.rows-of2.ensures
-    (kind_of a.rule) _ (sym c.before.before.before.before.is-not-cycle.ensures ∙ c.before.before.before.if1.false) _ (c.is-round.ensures (live a.n (path_of a.t1)))))
+    let a = c.args in
+    let p = c.requires in
+    applies-cycle a.n a.s _ p.1 _ _ c.rows_of-link.ensures c.rows_of-reach.ensures
+    (kind_of a.rule) _ (sym c.is_not_cycle.ensures ∙ c.if-is_not_cycle.false) _ (c.is_round.ensures (live a.n (path_of a.s)))))

@@ -72,37 +72,37 @@ is_allowed_spec =
     (λ c κs. search rules)
     -- returns
     (λ c lives e l.
-    let a = c.before.before.before.before.before.args in
-    reflex_passes lives (graph_of a.link.now a.reach.now) _ _ _ _ _ _ (ap kind_of c.before.before.before.enum_told.given.1) (e) c.before.before.holds.ensures)
+    let a = c.args in
+    reflex_passes lives (graph_of a.link.now a.reach.now) _ _ _ _ _ _ (ap kind_of c.in-Reflex.is) (e) c.holds.ensures)
     -- returns-2
     (λ c lives e l.
-    let a = c.before.before.before.before.before.args in
-    trans1_passes lives (graph_of a.link.now a.reach.now) _ _ _ _ _ _ (ap kind_of c.before.before.before.enum-told2.given.1) c.before.before.holds2.ensures
-    c.before.holds3.ensures)
+    let a = c.args in
+    trans1_passes lives (graph_of a.link.now a.reach.now) _ _ _ _ _ _ (ap kind_of c.in-Trans1.is) c.holds-in-Trans1.ensures
+    c.holds-in-Trans1-2.ensures)
     -- returns-3
     (λ c lives e l.
-    let a = c.before.before.before.before.before.args in
-    trans2_passes lives (graph_of a.link.now a.reach.now) _ _ _ _ _ _ _ (ap kind_of c.before.before.before.enum-told3.given.1) c.before.before.holds4.ensures
-    c.before.holds5.ensures c.holds6.ensures)
+    let a = c.args in
+    trans2_passes lives (graph_of a.link.now a.reach.now) _ _ _ _ _ _ _ (ap kind_of c.in-Trans2.is) c.holds-in-Trans2.ensures
+    c.holds-in-Trans2-2.ensures c.holds-in-Trans2-3.ensures)
     -- returns-4
     (λ c lives e l.
-    let a = c.before.before.before.before.before.before.before.args in
-    func_passes lives (graph_of a.link.now a.reach.now) _ _ _ _ _ _ _ (ap kind_of c.before.before.before.before.before.enum-told4.given.1)
-    c.before.before.before.before.holds7.ensures c.before.before.before.holds8.ensures c.holds9.ensures)
+    let a = c.args in
+    func_passes lives (graph_of a.link.now a.reach.now) _ _ _ _ _ _ _ (ap kind_of c.in-Func.is)
+    c.holds-in-Func.ensures c.holds-in-Func-2.ensures c.holds-in-Func-3.ensures)
     -- returns-5
-    (λ c lives e l. absurd (cycle_excluded _ (ap kind_of c.enum-told5.given.1) l))
+    (λ c lives e l. absurd (cycle_excluded _ (ap kind_of c.in-Cycle.is) l))
     -- returns-6
     (λ c lives e l.
-    let a = c.before.before.before.before.before.before.before.before.args in
-    scc_passes lives (graph_of a.link.now a.reach.now) _ _ _ _ _ _ _ _ (ap kind_of c.before.before.before.before.before.before.enum-told6.given.1)
-    c.before.before.before.before.before.holds10.ensures c.before.before.before.before.holds11.ensures c.before.holds12.ensures c.holds13.ensures)
+    let a = c.args in
+    scc_passes lives (graph_of a.link.now a.reach.now) _ _ _ _ _ _ _ _ (ap kind_of c.in-Scc.is)
+    c.holds-in-Scc.ensures c.holds-in-Scc-2.ensures c.holds-in-Scc-3.ensures c.holds-in-Scc-4.ensures)
     -- returns-7
     (λ c lives e l.
-    let a = c.before.before.before.before.before.before.args in
-    total_passes lives (graph_of a.link.now a.reach.now) _ _ _ _ _ _ _ _ (ap kind_of c.before.before.before.before.enum-told7.given.1) c.before.before.before.holds14.ensures
-    c.before.before.holds15.ensures c.before.holds16.ensures c.holds17.ensures)
+    let a = c.args in
+    total_passes lives (graph_of a.link.now a.reach.now) _ _ _ _ _ _ _ _ (ap kind_of c.in-Total.is) c.holds-in-Total.ensures
+    c.holds-in-Total-2.ensures c.holds-in-Total-3.ensures c.holds-in-Total-4.ensures)
     -- returns-8
     (λ c lives e l.
-    let a = c.before.before.before.before.before.before.before.before.args in
-    share_passes lives (graph_of a.link.now a.reach.now) _ _ _ _ _ _ _ _ (ap kind_of c.before.before.before.before.before.before.enum-told8.given.1)
-    c.before.before.before.before.before.holds18.ensures c.before.before.before.before.holds19.ensures c.before.holds20.ensures c.holds21.ensures))
+    let a = c.args in
+    share_passes lives (graph_of a.link.now a.reach.now) _ _ _ _ _ _ _ _ (ap kind_of c.in-Share.is)
+    c.holds-in-Share.ensures c.holds-in-Share-2.ensures c.holds-in-Share-3.ensures c.holds-in-Share-4.ensures))

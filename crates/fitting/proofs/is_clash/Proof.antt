@@ -8,18 +8,18 @@ is_clash_spec =
     tie.close
     (tie.spec
     -- is-field-clash-requires
-    (λ c κs. c.before.before.before.before.requires.field_fit)
+    (λ c κs. c.requires.field_fit)
     -- returns
-    (λ c. clash_fields _ _ _ _ _ _ _ c.is-field-clash.ensures c.before.before.before.if1.true)
+    (λ c. clash_fields _ _ _ _ _ _ _ c.is_field_clash.ensures c.if-section-eq4.true)
     -- returns-2
-    (λ c. in_partnered _ _ _ _ _ c.before.if1.false c.if2.true)
+    (λ c. in_partnered _ _ _ _ _ c.if-section-eq4.false c.if-j-ne0.true)
     -- is-equality-clash-requires
-    (λ c κs. c.before.before.before.before.before.before.requires.equal_fit)
+    (λ c κs. c.requires.equal_fit)
     -- returns-3
-    (λ c. clash_equalities _ _ _ _ _ _ _ c.is-equality-clash.ensures c.before.before.before.if3.true c.before.before.before.before.if2.false)
+    (λ c. clash_equalities _ _ _ _ _ _ _ c.is_equality_clash.ensures c.if-section-eq2.true c.if-j-ne0.false)
     -- is-reach-clash-requires
-    (λ c κs. c.before.before.before.before.before.requires)
+    (λ c κs. c.requires)
     -- returns-4
-    (λ c. clash_reachability _ _ _ _ _ _ _ c.is-reach-clash.ensures c.before.if4.true c.before.before.before.if2.false)
+    (λ c. clash_reachability _ _ _ _ _ _ _ c.is_reach_clash.ensures c.if-section-eq3.true c.if-j-ne0.false)
     -- returns-5
-    (λ c. in_none _ _ _ _ _ c.before.before.before.if1.false c.before.if3.false c.if4.false))
+    (λ c. in_none _ _ _ _ _ c.if-section-eq4.false c.if-section-eq2.false c.if-section-eq3.false))

@@ -11,12 +11,12 @@ is_equality_clash_spec =
     tie.close
     (tie.spec
     -- returns
-    (λ c. sym (negated_none _ _ _ (literals_are _ _ _ c.before.before.requires) _ _ c.if1.true))
+    (λ c. sym (negated_none _ _ _ (literals_are _ _ _ c.requires) _ _ c.if-i-eq0.true))
     -- returns-2
-    (λ c. sym (negated_past _ _ _ (literals_are _ _ _ c.before.before.before.requires) _ _ c.if2.true))
+    (λ c. sym (negated_past _ _ _ (literals_are _ _ _ c.requires) _ _ c.if-count-i.true))
     -- sub-is-unequal-to-itself
-    (λ c. let d = c.before.if1.false in omega arith)
+    (λ c. let d = c.if-i-eq0.false in omega arith)
     -- is-unequal-to-itself-requires
-    (λ c κs. let d = c.before.if1.false in let l = c.if2.false in let p = c.before.before.before.requires in omega arith)
+    (λ c κs. let d = c.if-i-eq0.false in let l = c.if-count-i.false in let p = c.requires in omega arith)
     -- returns-3
-    (λ c. c.is-unequal-to-itself.ensures ∙ negated_here _ _ _ (literals_are _ _ _ c.before.before.before.before.requires) _ _ c.before.before.if1.false c.before.if2.false))
+    (λ c. c.is_unequal_to_itself.ensures ∙ negated_here _ _ _ (literals_are _ _ _ c.requires) _ _ c.if-i-eq0.false c.if-count-i.false))

@@ -10,13 +10,13 @@ is_live_spec =
     tie.close
     (tie.spec
     -- returns
-    (λ c. live-zero _ c.before.args.t1 _ c.if1.true)
+    (λ c. live-zero _ c.args.s _ c.if-at-eq0.true)
     -- returns-2
-    (λ c. live_above _ c.before.before.args.t1 _ c.if2.true)
+    (λ c. live_above _ c.args.s _ c.if-n-at.true)
     -- element-copy-out-wide
-    (λ c. let l = c.if2.false in let p = c.before.before.requires in omega arith)
+    (λ c. let l = c.if-n-at.false in let p = c.requires in omega arith)
     -- wide-requires
     (λ c κs. search rules)
     -- returns-3
-    (λ c. live_here _ c.before.before.before.before.args.t1 _ c.before.before.before.before.requires c.before.before.before.if1.false c.before.before.if2.false _
-    c.wide.ensures.0))
+    (λ c. live_here _ c.args.s _ c.requires c.if-at-eq0.false c.if-n-at.false _
+    c.wide-to.ensures.0))

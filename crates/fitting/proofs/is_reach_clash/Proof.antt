@@ -11,12 +11,12 @@ is_reach_clash_spec =
     tie.close
     (tie.spec
     -- returns
-    (λ c. sym (negated_none _ _ _ (reachability-said _ _ c.before.before.requires) _ _ c.if1.true))
+    (λ c. sym (negated_none _ _ _ (reachability-said _ _ c.requires) _ _ c.if-i-eq0.true))
     -- returns-2
-    (λ c. sym (negated_past _ _ _ (reachability-said _ _ c.before.before.before.requires) _ _ c.if2.true))
+    (λ c. sym (negated_past _ _ _ (reachability-said _ _ c.requires) _ _ c.if-count-i.true))
     -- sub-is-held-negated
-    (λ c. let d = c.before.if1.false in omega arith)
+    (λ c. let d = c.if-i-eq0.false in omega arith)
     -- is-held-negated-requires
-    (λ c κs. let d = c.before.if1.false in let l = c.if2.false in literal-fits _ _ _ _ _ (omega arith) c.before.before.before.requires.reach_fit)
+    (λ c κs. let d = c.if-i-eq0.false in let l = c.if-count-i.false in literal-fits _ _ _ _ _ (omega arith) c.requires.reach_fit)
     -- returns-3
-    (λ c. c.is-held-negated.ensures ∙ negated_here _ _ _ (reachability-said _ _ c.before.before.before.before.requires) _ _ c.before.before.if1.false c.before.if2.false))
+    (λ c. c.is_held_negated.ensures ∙ negated_here _ _ _ (reachability-said _ _ c.requires) _ _ c.if-i-eq0.false c.if-count-i.false))

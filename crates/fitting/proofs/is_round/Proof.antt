@@ -17,32 +17,32 @@ is_round_spec =
     (λ c κs. search rules)
     -- returns
     (λ c lives.
-    let a = c.before.before.args in
-    sym (round_unreached a.n lives a.link.now a.reach.now a.x.0 a.y.0 _ (sym c.before.holds.ensures ∙ not-true _ c.if1.true)))
+    let a = c.args in
+    sym (round_unreached a.n lives a.link.now a.reach.now a.x.0 a.y.0 _ (sym c.holds.ensures ∙ c.if-not-holds.true)))
     -- returns-2
     (λ c lives.
-    let a = c.before.before.before.args in
-    sym (round_none a.n lives a.link.now a.reach.now a.x.0 a.y.0 _ c.if2.true))
+    let a = c.args in
+    sym (round_none a.n lives a.link.now a.reach.now a.x.0 a.y.0 _ c.if-k-eq0.true))
     -- next-requires
-    (λ c κs. let l = square_within _ _ _ (sym c.before.before.holds.ensures ∙ not-false _ c.before.if1.false) in (c.before.before.before.requires, l))
+    (λ c κs. let l = square_within _ _ _ (sym c.holds.ensures ∙ c.if-not-holds.false) in (c.requires, l))
     -- follow-requires
     (λ c κs.
-    let a = c.before.before.before.before.args in
-    let l = next_le a.n (links_in a.link.now) a.x.0 in let e = c.next.ensures in let p = c.before.before.before.before.requires in (p, omega arith))
+    let a = c.args in
+    let l = next_le a.n (links_in a.link.now) a.x.0 in let e = c.next-first.ensures in let p = c.requires in (p, omega arith))
     -- sub-if3
-    (λ c. let d = c.before.before.if2.false in omega arith)
+    (λ c. let d = c.if-k-eq0.false in omega arith)
     -- returns-3
     (λ c lives.
-    let a = c.before.before.before.before.before.before.before.args in
-    sym (round_other a.n lives a.link.now a.reach.now a.x.0 a.y.0 _ _ _ c.before.before.before.next.ensures c.before.before.follow.ensures.0
-    (λ q. let d = c.if3.true in d (omega (arith, q)))))
+    let a = c.args in
+    sym (round_other a.n lives a.link.now a.reach.now a.x.0 a.y.0 _ _ _ c.next-first.ensures c.follow-back.ensures.0
+    (λ q. let d = c.if-back-k.true in d (omega (arith, q)))))
     -- follow-requires-2
-    (λ c κs. let l = square_within _ _ _ (sym c.before.before.before.before.before.before.holds.ensures ∙ not-false _ c.before.before.before.before.before.if1.false) in
-    (c.before.before.before.before.before.before.before.requires, l))
+    (λ c κs. let l = square_within _ _ _ (sym c.holds.ensures ∙ c.if-not-holds.false) in
+    (c.requires, l))
     -- returns-4
     (λ c lives.
-    let a = c.before.before.before.before.before.before.before.before.before.args in
+    let a = c.args in
     round_found a.n lives a.link.now a.reach.now a.x.0 a.y.0 _ _ _ _
-    (sym c.before.before.before.before.before.before.before.before.holds.ensures ∙ not-false _ c.before.before.before.before.before.before.before.if1.false)
-    c.before.before.before.before.before.next.ensures c.before.before.before.before.follow.ensures.0
-    (let d = c.before.before.before.before.before.before.if2.false in let e = c.before.before.if3.false in omega arith) c.before.follow2.ensures.0))
+    (sym c.holds.ensures ∙ c.if-not-holds.false)
+    c.next-first.ensures c.follow-back.ensures.0
+    (let d = c.if-k-eq0.false in let e = c.if-back-k.false in omega arith) c.follow-round.ensures.0))

@@ -18,7 +18,7 @@ named_spec =
     -- links-requires
     (λ c κs. search rules)
     -- returns
-    (λ c. named_beyond _ _ _ _ _ c.before.before.wide.ensures.0 c.before.links.ensures.0 c.if1.true)
+    (λ c. named_beyond _ _ _ _ _ c.wide.ensures.0 c.links.ensures.0 c.if-links-k.true)
     -- rule-numbered-requires
     (λ c κs. search rules)
     -- enum-known-rule
@@ -26,9 +26,8 @@ named_spec =
     -- enum_told
     (λ c. search rules)
     -- returns-2
-    (λ c. named_unruled _ _ _ (sym (ap numbered_of c.enum_told.given.1) ∙ c.before.before.rule-numbered.ensures))
+    (λ c. named_unruled _ _ _ (sym (ap numbered_of c.in_default.is) ∙ c.rule_numbered.ensures))
     -- returns-3
     (λ c.
-    let c6 = c.before.before.before.before.before.before in
-    let h = sym (ap numbered_of c.before.rule.given.1) ∙ c.before.before.before.rule-numbered.ensures in
-    named_is _ _ _ _ _ c6.wide.ensures.0 c.before.before.before.before.before.links.ensures.0 c.before.before.before.before.if1.false _ h))
+    let h = sym (ap numbered_of c.in-Is.is) ∙ c.rule_numbered.ensures in
+    named_is _ _ _ _ _ c.wide.ensures.0 c.links.ensures.0 c.if-links-k.false _ h))

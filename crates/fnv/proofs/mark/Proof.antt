@@ -9,18 +9,18 @@ use Rattle.fnv.proofs.Marks.{mark_next, mark_end, mark_starts}
 use Rattle.fnv.proofs.mark.Statement.{statement}
 use Rattle.fnv.proofs.mark.Tie as tie
 
-abbrev invariant-loop : tie.invariant-loop
-invariant-loop octets hash₀ i₀ hash i = (i ≤ length octets) × (mark_from hash (drop i octets) ≡ mark_of octets)
+abbrev invariant-loop-i : tie.invariant-loop-i
+invariant-loop-i octets hash₀ i₀ hash i = (i ≤ length octets) × (mark_from hash (drop i octets) ≡ mark_of octets)
 
-abbrev decreases-loop : tie.decreases-loop
-decreases-loop octets hash₀ i₀ hash i = length octets - i
+abbrev decreases-loop-i : tie.decreases-loop-i
+decreases-loop-i octets hash₀ i₀ hash i = length octets - i
 
 pub mark_spec : {M : Type 1} → statement M
 mark_spec =
     tie.close
     (tie.spec
-    invariant-loop
-    decreases-loop
+    invariant-loop-i
+    decreases-loop-i
     -- loop-holds
     (λ c. (omega arith, mark_starts _))
     -- shared-slice-read-step
@@ -32,6 +32,6 @@ mark_spec =
     -- loop-less
     (λ c. search rules)
     -- loop-again
-    (λ c. (omega arith, mark_next _ _ _ _ c.before.before.loop-test.true c.step.ensures ∙ c.before.before.before.loop.invariant.1))
+    (λ c. (omega arith, mark_next _ _ _ _ c.before.before.loop-i-test.true c.step-hash.ensures ∙ c.before.before.before.loop-i.invariant.1))
     -- returns
-    (λ c. sym (mark_end c.before.before.before.args.octets.now c.before.loop.i _ (omega arith)) ∙ c.before.loop.invariant.1))
+    (λ c. sym (mark_end c.before.before.before.args.octets.now c.before.loop-i.i _ (omega arith)) ∙ c.before.loop-i.invariant.1))

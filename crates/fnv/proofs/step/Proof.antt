@@ -13,4 +13,4 @@ step_spec =
     -- wrapping-mul-requires
     (λ c κs. search rules)
     -- returns
-    (λ c. step_marks _ c.before.wide.ensures c.wrapping-mul.ensures))
+    (λ c. step_marks _ c.before.wide.ensures c.wrapping_mul.ensures))

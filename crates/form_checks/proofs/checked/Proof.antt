@@ -15,10 +15,9 @@ checked_spec =
     -- check-links-requires
     (λ c κs. search rules)
     -- returns
-    (λ c. subst (λ (b : Bool). CheckedBy (form_of b) c.check-links.result c.before.before.before.args.query.now) (sym c.before.if1.true) c.check-links.ensures)
+    (λ c. subst (λ (b : Bool). CheckedBy (form_of b) c.check_links.result c.args.query.now) (sym c.if-three.true) c.check_links.ensures)
     -- check-requires
     (λ c κs. search rules)
     -- returns-2
     (λ c.
-    let c3 = c.before.before.before in
-    subst (λ (b : Bool). CheckedBy (form_of b) c.check.result c3.args.query.now) (sym c.before.if1.false) (one_checked c.check.result c3.args.query.now c.check.ensures)))
+    subst (λ (b : Bool). CheckedBy (form_of b) c.check.result c.args.query.now) (sym c.if-three.false) (one_checked c.check.result c.args.query.now c.check.ensures)))

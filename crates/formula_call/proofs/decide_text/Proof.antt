@@ -17,133 +17,88 @@ use Rattle.formula_call.proofs.FormulaLaws.{has-present, counts_small, text_long
 use Rattle.formula_call.proofs.decide_text.Statement.{statement}
 use Rattle.formula_call.proofs.decide_text.Tie as tie
 
--- The places that lie behind a place.
-
-abbrev else1_of_nodes : tie.After-nodes → tie.Else1
-else1_of_nodes c = c.before.before
-
-abbrev decide_first_of_slice_known2 : tie.After-slice-known2 → tie.After-decide-first
-decide_first_of_slice_known2 c = c.before.before
-
-abbrev next_of_nodes2 : tie.After-nodes2 → tie.After-next
-next_of_nodes2 c = c.before.before
-
-abbrev read_text_of_next : tie.After-next → tie.After-read-text
-read_text_of_next c = c.before.before
-
-abbrev else2_of_decide_first_arg : tie.After-decide-first-arg → tie.Else2
-else2_of_decide_first_arg c = c.before.before
-
-abbrev else1_of_read_text : tie.After-read-text → tie.Else1
-else1_of_read_text c = else1_of_nodes c.before
-
-abbrev next_of_count_at : tie.After-count-at → tie.After-next
-next_of_count_at c = next_of_nodes2 c.before
-
-abbrev start_of_slice_known : tie.After-slice-known → tie.Start
-start_of_slice_known c = c.before.before.before.before
-
-abbrev start_of_else1 : tie.Else1 → tie.Start
-start_of_else1 c = start_of_slice_known c.before
-
 pub decide_text_spec : {M : Type 1} → statement M
 decide_text_spec =
     tie.close
     (tie.spec
     -- returns
     (λ c.
-    let start = start_of_slice_known c.before in
-    text_long start.args.order.now start.args.query.now start.args.text.now start.args.report.now start.args.report.now c.if1.true start.pre.1)
+    text_long c.args.order.now c.args.query.now c.args.text.now c.args.report.now c.args.report.now c.if-text-gt512.true c.requires.1)
     -- read-text-requires
     (λ c κs.
-    let else1 = else1_of_nodes c in let start = start_of_else1 else1 in
-    (else1.if1.left, counts_small start.args.layout start.args.query.now start.pre.0, length-replicate {A = ℕ} 2048 0))
+    (c.if-text-gt512.false, counts_small c.args.layout c.args.query.now c.requires.0, length-replicate {A = ℕ} 2048 0))
     -- enum-known-k
     (λ c. search rules)
     -- enum-known-next
     (λ c. search rules)
     -- sub-count-at
     (λ c.
-    let after_next = next_of_nodes2 c in let after_read_text = read_text_of_next after_next in
-    let g = subst (λ (r : Found). Ranged r (start_of_else1 (else1_of_read_text after_read_text)).args.text.now 0 0 (replicate 2048 0)
-    after_read_text.read-text.last.1.1.0) after_next.next.given.1 after_read_text.read-text.ensures.0 in
+    let g = subst (λ (r : Found). Ranged r c.args.text.now 0 0 (replicate 2048 0)
+    c.read_text.new.nodes) c.in-Read.is c.read_text.ensures.0 in
     omega (arith, g.grown))
     -- count-at-requires
     (λ c κs.
-    let after_next = next_of_nodes2 c in let after_read_text = read_text_of_next after_next in let else1 = else1_of_read_text after_read_text in
-    let g = subst (λ (r : Found). Ranged r (start_of_else1 else1).args.text.now 0 0 (replicate 2048 0) after_read_text.read-text.last.1.1.0)
-    after_next.next.given.1 after_read_text.read-text.ensures.0 in
+    let g = subst (λ (r : Found). Ranged r c.args.text.now 0 0 (replicate 2048 0) c.read_text.new.nodes)
+    c.in-Read.is c.read_text.ensures.0 in
     omega
-    (arith, g.grown, g.bounded, g.within, else1.if1.left))
+    (arith, g.grown, g.bounded, g.within, c.if-text-gt512.false))
     -- returns-2
     (λ c.
-    let after_count_at = c.before in let after_next = next_of_count_at after_count_at in let after_read_text = read_text_of_next after_next in
-    let else1 = else1_of_read_text after_read_text in let start = start_of_else1 else1 in
-    let text_2 = start.args.text.now in
-    let query = start.args.query.now in
-    let h = subst (λ (r : Found). FoundAs r text_2 after_read_text.read-text.last.1.1.0 (read_text (present (decode query)) 32 text_2)) after_next.next.given.1
-    (subst (λ (h : Letter → ℕ → Bool). FoundAs after_read_text.read-text.result text_2 after_read_text.read-text.last.1.1.0
-    (read_text h 32 text_2)) (has-present start.args.layout query start.pre.0)
-    after_read_text.read-text.ensures.1) in text_many start.args.order.now query text_2 start.args.report.now start.args.report.now else1.if1.left h.0 _ h.1
-    (formula_many _ _ after_count_at.count_at.result h.0 h.2 after_count_at.count_at.ensures c.if2.true) start.pre.1)
+    let text_2 = c.args.text.now in
+    let query = c.args.query.now in
+    let h = subst (λ (r : Found). FoundAs r text_2 c.read_text.new.nodes (read_text (present (decode query)) 32 text_2)) c.in-Read.is
+    (subst (λ (h : Letter → ℕ → Bool). FoundAs c.read_text.result text_2 c.read_text.new.nodes
+    (read_text h 32 text_2)) (has-present c.args.layout query c.requires.0)
+    c.read_text.ensures.1) in text_many c.args.order.now query text_2 c.args.report.now c.args.report.now c.if-text-gt512.false h.0 _ h.1
+    (formula_many _ _ c.count_at-count.result h.0 h.2 c.count_at-count.ensures c.if-count-gt64.true) c.requires.1)
     -- sub-decide-first
     (λ c.
-    let after_next = next_of_count_at c.before.before in let after_read_text = read_text_of_next after_next in
-    let g = subst (λ (r : Found). Ranged r (start_of_else1 (else1_of_read_text after_read_text)).args.text.now 0 0 (replicate 2048 0)
-    after_read_text.read-text.last.1.1.0) after_next.next.given.1 after_read_text.read-text.ensures.0 in
+    let g = subst (λ (r : Found). Ranged r c.args.text.now 0 0 (replicate 2048 0)
+    c.read_text.new.nodes) c.in-Read.is c.read_text.ensures.0 in
     omega (arith, g.grown))
     -- decide-first-requires
     (λ c κs.
-    let else2 = else2_of_decide_first_arg c in let after_count_at = else2.before in let after_next = next_of_count_at after_count_at in
-    let after_read_text = read_text_of_next after_next in let else1 = else1_of_read_text after_read_text in let start = start_of_else1 else1 in
-    let layout = start.args.layout in
-    let text_2 = start.args.text.now in
-    let last_1_1_0 = after_read_text.read-text.last.1.1.0 in
-    let next_given = after_next.next.given in
-    let g = subst (λ (r : Found). Ranged r text_2 0 0 (replicate 2048 0) last_1_1_0) next_given.1 after_read_text.read-text.ensures.0 in
-    let h = subst (λ (r : Found). FoundAs r text_2 last_1_1_0 (read_text (has (layout.equal_count ∷ layout.reach_count ∷ layout.field_count ∷ 0 ∷ [])) 32 text_2)) next_given.1
-    after_read_text.read-text.ensures.1 in (
-      start.pre.0,
+    let layout = c.args.layout in
+    let text_2 = c.args.text.now in
+    let nodes = c.read_text.new.nodes in
+    let g = subst (λ (r : Found). Ranged r text_2 0 0 (replicate 2048 0) nodes) c.in-Read.is c.read_text.ensures.0 in
+    let h = subst (λ (r : Found). FoundAs r text_2 nodes (read_text (has (layout.equal_count ∷ layout.reach_count ∷ layout.field_count ∷ 0 ∷ [])) 32 text_2)) c.in-Read.is
+    c.read_text.ensures.1 in (
+      c.requires.0,
       (
         h.0,
-        formula_stands (layout.equal_count ∷ layout.reach_count ∷ layout.field_count ∷ 0 ∷ []) text_2 last_1_1_0 (next_given.0.1.0 - 1) after_count_at.count_at.result h.0
-            (drop next_given.0.0 text_2) (counts_small layout start.args.query.now start.pre.0) h.1 h.2 (omega (arith, g.grown, g.bounded, g.within, else1.if1.left))
-            after_count_at.count_at.ensures else2.if2.left,
+        formula_stands (layout.equal_count ∷ layout.reach_count ∷ layout.field_count ∷ 0 ∷ []) text_2 nodes (c.in-Read.last - 1) c.count_at-count.result h.0
+            (drop c.in-Read.next text_2) (counts_small layout c.args.query.now c.requires.0) h.1 h.2 (omega (arith, g.grown, g.bounded, g.within, c.if-text-gt512.false))
+            c.count_at-count.ensures c.if-count-gt64.false,
       ),
-      start.pre.1,
+      c.requires.1,
     ))
     -- returns-3
     (λ c.
-    let after_k = c.before in let after_read_text = after_k.before.before in let else1 = else1_of_read_text after_read_text in
-    let start = start_of_else1 else1 in
-    let text_2 = start.args.text.now in
-    let last_1_1_0 = after_read_text.read-text.new.1.1.0 in
-    let query = start.args.query.now in
-    text_refused start.args.order.now query text_2 start.args.report.now start.args.report.now else1.if1.left _ _
-    (subst (λ (r : Found). Ranged r text_2 0 0 (replicate 2048 0) last_1_1_0) after_k.k.given.1 after_read_text.read-text.ensures.0)
-    (subst (λ (r : Found). FoundAs r text_2 last_1_1_0 (read_text (present (decode query)) 32 text_2)) after_k.k.given.1
-    (subst (λ (h : Letter → ℕ → Bool). FoundAs after_read_text.read-text.result text_2 last_1_1_0 (read_text h 32 text_2)) (has-present start.args.layout query start.pre.0)
-    after_read_text.read-text.ensures.1)) start.pre.1)
+    let text_2 = c.args.text.now in
+    let nodes = c.read_text.new.nodes in
+    let query = c.args.query.now in
+    text_refused c.args.order.now query text_2 c.args.report.now c.args.report.now c.if-text-gt512.false _ _
+    (subst (λ (r : Found). Ranged r text_2 0 0 (replicate 2048 0) nodes) c.in-Refused.is c.read_text.ensures.0)
+    (subst (λ (r : Found). FoundAs r text_2 nodes (read_text (present (decode query)) 32 text_2)) c.in-Refused.is
+    (subst (λ (h : Letter → ℕ → Bool). FoundAs c.read_text.result text_2 nodes (read_text h 32 text_2)) (has-present c.args.layout query c.requires.0)
+    c.read_text.ensures.1)) c.requires.1)
     -- same-length
-    (λ c. (decide_first_of_slice_known2 c).decide-first.auto.1.1.1.1.1.1.0)
+    (λ c. c.decide_first.auto.report)
     -- returns-4
     (λ c.
-    let after_decide_first = decide_first_of_slice_known2 c in let else2 = else2_of_decide_first_arg after_decide_first.before in
-    let after_count_at = else2.before in let after_next = next_of_count_at after_count_at in
-    let after_read_text = read_text_of_next after_next in let else1 = else1_of_read_text after_read_text in let start = start_of_else1 else1 in
-    let text_2 = start.args.text.now in
-    let layout = start.args.layout in
-    let last_1_1_0 = after_read_text.read-text.last.1.1.0 in
-    let next_given = after_next.next.given in
-    let query = start.args.query.now in
-    let g = subst (λ (r : Found). Ranged r text_2 0 0 (replicate 2048 0) last_1_1_0) next_given.1 after_read_text.read-text.ensures.0 in
-    let h = subst (λ (r : Found). FoundAs r text_2 last_1_1_0 (read_text (has (layout.equal_count ∷ layout.reach_count ∷ layout.field_count ∷ 0 ∷ [])) 32 text_2)) next_given.1
-    after_read_text.read-text.ensures.1 in
-    let s = formula_stands (layout.equal_count ∷ layout.reach_count ∷ layout.field_count ∷ 0 ∷ []) text_2 last_1_1_0 (next_given.0.1.0 - 1) after_count_at.count_at.result h.0
-    (drop next_given.0.0 text_2) (counts_small layout query start.pre.0) h.1 h.2 (omega (arith, g.grown, g.bounded, g.within, else1.if1.left)) after_count_at.count_at.ensures
-    else2.if2.left in
-    text-decided start.args.order.now query text_2 start.args.report.now after_decide_first.decide-first.last.1.1.1.1.1.1.0
-    else1.if1.left h.0 (drop next_given.0.0 text_2)
-    (subst (λ (x : Letter → ℕ → Bool). read_text x 32 text_2 ≡ done h.0 (drop next_given.0.0 text_2)) (has-present layout query start.pre.0)
-    h.1) after_decide_first.decide-first.result
-    (subst (λ (n : ℕ). n ≤ 64) s.counted s.few) (after_decide_first.decide-first.ensures h.0 text_2 s)))
+    let text_2 = c.args.text.now in
+    let layout = c.args.layout in
+    let nodes = c.read_text.new.nodes in
+    let query = c.args.query.now in
+    let g = subst (λ (r : Found). Ranged r text_2 0 0 (replicate 2048 0) nodes) c.in-Read.is c.read_text.ensures.0 in
+    let h = subst (λ (r : Found). FoundAs r text_2 nodes (read_text (has (layout.equal_count ∷ layout.reach_count ∷ layout.field_count ∷ 0 ∷ [])) 32 text_2)) c.in-Read.is
+    c.read_text.ensures.1 in
+    let s = formula_stands (layout.equal_count ∷ layout.reach_count ∷ layout.field_count ∷ 0 ∷ []) text_2 nodes (c.in-Read.last - 1) c.count_at-count.result h.0
+    (drop c.in-Read.next text_2) (counts_small layout query c.requires.0) h.1 h.2 (omega (arith, g.grown, g.bounded, g.within, c.if-text-gt512.false)) c.count_at-count.ensures
+    c.if-count-gt64.false in
+    text-decided c.args.order.now query text_2 c.args.report.now c.decide_first.new.report
+    c.if-text-gt512.false h.0 (drop c.in-Read.next text_2)
+    (subst (λ (x : Letter → ℕ → Bool). read_text x 32 text_2 ≡ done h.0 (drop c.in-Read.next text_2)) (has-present layout query c.requires.0)
+    h.1) c.decide_first.result
+    (subst (λ (n : ℕ). n ≤ 64) s.counted s.few) (c.decide_first.ensures h.0 text_2 s)))

@@ -5,18 +5,18 @@ use Rattle.formula.specs.Call.{is_satisfiable}
 use Rattle.formula_call.proofs.is_satisfiable.Statement.{statement}
 use Rattle.formula_call.proofs.is_satisfiable.Tie as tie
 
-returns : tie.Need-returns
+returns : tie.Need-returns-in-Satisfiable
 unfolding is_satisfiable
 returns c = search rules
 
-returns_2 : tie.Need-returns-2
+returns_2 : tie.Need-returns-in-Refuted
 unfolding is_satisfiable
 returns_2 c = search rules
 
-returns_3 : tie.Need-returns-3
+returns_3 : tie.Need-returns-in-Refused
 unfolding is_satisfiable
 -- returns-3
-returns_3 c = rw c.before.answer.given.1 refl
+returns_3 c = rw c.in-Refused.is refl
 
 pub is_satisfiable_spec : {M : Type 1} → statement M
 is_satisfiable_spec =

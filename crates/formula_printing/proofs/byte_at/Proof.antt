@@ -11,7 +11,7 @@ byte_at_spec =
     tie.close
     (tie.spec
     -- returns
-    (λ c. (sym (get_or-eq_default c.before.before.args.bytes.now 0 c.if1.true), omega arith))
+    (λ c. (sym (get_or-eq_default c.args.bytes.now 0 c.if-bytes-at.true), omega arith))
     -- shared-slice-read-wide
     (λ c. search rules)
     -- wide-requires

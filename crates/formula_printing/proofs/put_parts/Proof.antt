@@ -8,11 +8,6 @@ use Rattle.formula_printing.proofs.Texts.{length_read, parts_read}
 use Rattle.formula_printing.proofs.put_parts.Statement.{statement}
 use Rattle.formula_printing.proofs.put_parts.Tie as tie
 
--- The places that lie behind a place.
-
-abbrev byte_at2_of_at_most2 : tie.After-at-most2 → tie.After-byte-at2
-byte_at2_of_at_most2 c = c.before.before
-
 pub put_parts_spec : {M : Type 1} → statement M
 put_parts_spec =
     tie.close
@@ -24,15 +19,14 @@ put_parts_spec =
     -- byte-at-requires-2
     (λ c κs. search rules)
     -- add-size
-    (λ c. omega (arith, c.before.byte_at.ensures.1, c.byte-at2.ensures.1))
+    (λ c. omega (arith, c.byte_at.ensures.1, c.byte_at-2.ensures.1))
     -- at-most-requires
     (λ c κs. search rules)
     -- at-most-requires-2
     (λ c κs. search rules)
     -- add-at-most
     (λ c.
-    let after_byte_at2 = byte_at2_of_at_most2 c in
-    omega (arith, after_byte_at2.before.byte_at.ensures.1, after_byte_at2.byte-at2.ensures.1))
+    omega (arith, c.byte_at.ensures.1, c.byte_at-2.ensures.1))
     -- at-most-requires-3
     (λ c κs. search rules)
     -- slice-aggregate-put-answer
@@ -54,11 +48,9 @@ put_parts_spec =
     -- same-length
     (λ c. search rules)
     -- returns
-    (λ c.
-    let after_put_answer = c.before.before in let after_at_most3 = after_put_answer.before.before.before.before.before in
-    let after_at_most2 = after_at_most3.before in let after_byte_at2 = byte_at2_of_at_most2 after_at_most2 in (
-      writes_as (parts_read _ _ _ _ (length_read _ _ _ _ refl after_byte_at2.before.byte_at.ensures.0 after_byte_at2.byte-at2.ensures.0)
-          after_at_most2.at-most2.ensures after_at_most3.at-most3.ensures _ after_at_most2.before.at_most.ensures)
-          after_put_answer.put-answer.ensures.0,
-      after_put_answer.put-answer.ensures.1,
+    (λ c. (
+      writes_as (parts_read _ _ _ _ (length_read _ _ _ _ refl c.byte_at.ensures.0 c.byte_at-2.ensures.0)
+          c.at_most-begin.ensures c.at_most-end.ensures _ c.at_most-cut.ensures)
+          c.put_answer.ensures.0,
+      c.put_answer.ensures.1,
     )))

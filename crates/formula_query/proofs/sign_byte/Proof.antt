@@ -12,6 +12,6 @@ sign_byte_spec =
     tie.close
     (tie.spec
     -- returns
-    (λ c. sym (ap (λ (b : Bool). sign_byte b) (eq-eqb _ _ c.if1.true)))
+    (λ c. sym (ap (λ (b : Bool). sign_byte b) (eq-eqb _ _ c.if-b-eq1.true)))
     -- returns-2
-    (λ c. sym (ap (λ (b : Bool). sign_byte b) (ne_eqb _ _ c.if1.false))))
+    (λ c. sym (ap (λ (b : Bool). sign_byte b) (ne_eqb _ _ c.if-b-eq1.false))))

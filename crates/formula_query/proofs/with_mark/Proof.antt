@@ -14,9 +14,7 @@ with_mark_spec =
     (λ c. omega arith)
     -- returns
     (λ c.
-    let start = c.before in
-    ap (λ (b : Bool). cond b (start.args.kept + 1) start.args.kept) (sym c.if1.true))
+    ap (λ (b : Bool). cond b (c.args.kept + 1) c.args.kept) (sym c.if-marked.true))
     -- returns-2
     (λ c.
-    let start = c.before in
-    ap (λ (b : Bool). cond b (start.args.kept + 1) start.args.kept) (sym c.if1.false)))
+    ap (λ (b : Bool). cond b (c.args.kept + 1) c.args.kept) (sym c.if-marked.false)))

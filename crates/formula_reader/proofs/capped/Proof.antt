@@ -10,6 +10,6 @@ capped_spec =
     tie.close
     (tie.spec
     -- returns
-    (λ c. (sym (cap_high _ c.if1.true), omega arith))
+    (λ c. (sym (cap_high _ c.if-n-gt64.true), omega arith))
     -- returns-2
-    (λ c. (sym (cap_low _ c.if1.false), omega arith)))
+    (λ c. (sym (cap_low _ c.if-n-gt64.false), omega arith)))

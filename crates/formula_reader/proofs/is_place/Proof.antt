@@ -11,6 +11,6 @@ is_place_spec =
     -- shared-slice-read-b
     (λ c. omega arith)
     -- returns
-    (λ c. is_place_lem _ _ c.before.if1.true)
+    (λ c. is_place_lem _ _ c.if-at-text.true)
     -- returns-2
-    (λ c. place_end _ _ c.if1.false))
+    (λ c. place_end _ _ c.if-at-text.false))

@@ -8,47 +8,35 @@ use Rattle.formula_reader.proofs.Laws.{digit_here, digit_not, digit_end, digit_l
 use Rattle.formula_reader.proofs.past_digits.Statement.{statement}
 use Rattle.formula_reader.proofs.past_digits.Tie as tie
 
-abbrev invariant-loop : tie.invariant-loop
-invariant-loop text at i₀ i = (at ≤ i) × (i ≤ length text) × (past_digits (drop i text) ≡ past_digits (drop at text))
+abbrev invariant-loop-i : tie.invariant-loop-i
+invariant-loop-i text at i₀ i = (at ≤ i) × (i ≤ length text) × (past_digits (drop i text) ≡ past_digits (drop at text))
 
-abbrev decreases-loop : tie.decreases-loop
-decreases-loop text at i₀ i = length text - i
-
--- The places that lie behind a place.
-
-abbrev in_loop_of_else1 : tie.Else1 invariant-loop decreases-loop → tie.In-loop invariant-loop decreases-loop
-in_loop_of_else1 c = c.before.before
-
-abbrev in_loop_of_then1 : tie.Then1 invariant-loop decreases-loop → tie.In-loop invariant-loop decreases-loop
-in_loop_of_then1 c = c.before.before
+abbrev decreases-loop-i : tie.decreases-loop-i
+decreases-loop-i text at i₀ i = length text - i
 
 pub past_digits_spec : {M : Type 1} → statement M
 past_digits_spec =
     tie.close
     (tie.spec
-    invariant-loop
-    decreases-loop
+    invariant-loop-i
+    decreases-loop-i
     -- loop-holds
     (λ c. (omega arith, c.requires, refl))
     -- shared-slice-read-b
     (λ c. omega arith)
     -- returns
     (λ c.
-    let in_loop = in_loop_of_then1 c in let at_loop = in_loop.before in
-    (at_loop.loop.inv.0, at_loop.loop.inv.1, sym (digit_not _ _ in_loop.loop-test.taken (digit_low _ c.if1.true)) ∙ at_loop.loop.inv.2))
+    (c.loop-i.invariant.0, c.loop-i.invariant.1, sym (digit_not _ _ c.loop-i-test.true (digit_low _ c.if-b-lt48.true)) ∙ c.loop-i.invariant.2))
     -- returns-2
     (λ c.
-    let in_loop = in_loop_of_else1 c.before in let at_loop = in_loop.before in
-    (at_loop.loop.inv.0, at_loop.loop.inv.1, sym (digit_not _ _ in_loop.loop-test.taken (digit_high _ c.if2.true)) ∙ at_loop.loop.inv.2))
+    (c.loop-i.invariant.0, c.loop-i.invariant.1, sym (digit_not _ _ c.loop-i-test.true (digit_high _ c.if-b-gt57.true)) ∙ c.loop-i.invariant.2))
     -- add-i
     (λ c. omega arith)
     -- loop-less
     (λ c. omega arith)
     -- loop-again
     (λ c.
-    let in_loop = in_loop_of_else1 c.before in
-    (omega arith, omega arith, sym (digit_here _ _ in_loop.loop-test.taken (digit_in _ c.before.if1.false c.if2.false)) ∙ in_loop.before.loop.inv.2))
+    (omega arith, omega arith, sym (digit_here _ _ c.loop-i-test.true (digit_in _ c.if-b-lt48.false c.if-b-gt57.false)) ∙ c.loop-i.invariant.2))
     -- returns-3
     (λ c.
-    let at_loop = c.before in
-    (at_loop.loop.invariant.0, at_loop.loop.invariant.1, sym (digit_end _ _ c.loop-test.false) ∙ at_loop.loop.invariant.2)))
+    (c.loop-i.invariant.0, c.loop-i.invariant.1, sym (digit_end _ _ c.loop-i-test.false) ∙ c.loop-i.invariant.2)))

@@ -9,14 +9,6 @@ use Rattle.formula_reader.specs.Tree.{put_node, capped}
 use Rattle.formula_reader.proofs.put_both.Statement.{statement}
 use Rattle.formula_reader.proofs.put_both.Tie as tie
 
--- The places that lie behind a place.
-
-abbrev capped3_of_put_node : tie.After-put-node → tie.After-capped3
-capped3_of_put_node c = c.before.before
-
-abbrev capped_of_capped2 : tie.After-capped2 → tie.After-capped
-capped_of_capped2 c = c.before.before.before
-
 pub put_both_spec : {M : Type 1} → statement M
 put_both_spec =
     tie.close
@@ -30,7 +22,7 @@ put_both_spec =
     -- capped-requires-2
     (λ c κs. search rules)
     -- mul-capped
-    (λ c. record { fits = lt_of_le_of_lt (mul-le-mul (capped_of_capped2 c).capped.ensures.1 c.capped2.ensures.1) (lit< tt) })
+    (λ c. record { fits = lt_of_le_of_lt (mul-le-mul c.capped.ensures.1 c.capped-2.ensures.1) (lit< tt) })
     -- capped-requires-3
     (λ c κs. search rules)
     -- add-put-node
@@ -39,10 +31,7 @@ put_both_spec =
     (λ c κs. omega arith)
     -- returns
     (λ c.
-    let after_capped3 = capped3_of_put_node c in let after_capped2 = after_capped3.before in
-    let after_capped = capped_of_capped2 after_capped2 in let after_count_at = after_capped.before in
-    let start = after_count_at.before.before in
-    c.put-node.ensures ∙ ap (put_node start.args.nodes.now (start.args.b + 1) 4 start.args.a start.args.b)
-    (after_capped3.capped3.ensures.0
-    ∙ ap capped (ap₂ (λ (x y : ℕ). x * y) (after_capped.capped.ensures.0 ∙ ap capped after_count_at.count_at.ensures)
-    (after_capped2.capped2.ensures.0 ∙ ap capped after_capped2.before.count-at2.ensures)))))
+    c.put_node.ensures ∙ ap (put_node c.args.nodes.now (c.args.b + 1) 4 c.args.a c.args.b)
+    (c.capped-count.ensures.0
+    ∙ ap capped (ap₂ (λ (x y : ℕ). x * y) (c.capped.ensures.0 ∙ ap capped c.count_at.ensures)
+    (c.capped-2.ensures.0 ∙ ap capped c.count_at-2.ensures)))))

@@ -7,11 +7,6 @@ use Rattle.formula_reader.specs.Tree.{put_node, capped}
 use Rattle.formula_reader.proofs.put_either.Statement.{statement}
 use Rattle.formula_reader.proofs.put_either.Tie as tie
 
--- The places that lie behind a place.
-
-abbrev capped3_of_put_node : tie.After-put-node → tie.After-capped3
-capped3_of_put_node c = c.before.before
-
 pub put_either_spec : {M : Type 1} → statement M
 put_either_spec =
     tie.close
@@ -34,10 +29,7 @@ put_either_spec =
     (λ c κs. omega arith)
     -- returns
     (λ c.
-    let after_capped3 = capped3_of_put_node c in let after_capped2 = after_capped3.before in let after_count_at2 = after_capped2.before in
-    let after_capped = after_count_at2.before.before in let after_count_at = after_capped.before in
-    let start = after_count_at.before.before in
-    c.put-node.ensures ∙ ap (put_node start.args.nodes.now (start.args.b + 1) 5 start.args.a start.args.b)
-    (after_capped3.capped3.ensures.0
-    ∙ ap capped (ap₂ (λ (x y : ℕ). x + y) (after_capped.capped.ensures.0 ∙ ap capped after_count_at.count_at.ensures)
-    (after_capped2.capped2.ensures.0 ∙ ap capped after_count_at2.count-at2.ensures)))))
+    c.put_node.ensures ∙ ap (put_node c.args.nodes.now (c.args.b + 1) 5 c.args.a c.args.b)
+    (c.capped-count.ensures.0
+    ∙ ap capped (ap₂ (λ (x y : ℕ). x + y) (c.capped.ensures.0 ∙ ap capped c.count_at.ensures)
+    (c.capped-2.ensures.0 ∙ ap capped c.count_at-2.ensures)))))

@@ -11,6 +11,6 @@ stands_spec =
     -- shared-slice-read-result
     (λ c. search rules)
     -- returns
-    (λ c. stands_in _ _ _ c.before.if1.true)
+    (λ c. stands_in _ _ _ c.if-at-text.true)
     -- returns-2
-    (λ c. stands_out _ _ _ c.if1.false))
+    (λ c. stands_out _ _ _ c.if-at-text.false))

@@ -9,14 +9,14 @@ start_of_spec =
     tie.close
     (tie.spec
     -- returns
-    (λ c. mark-opening c.match.keys1)
+    (λ c. mark-opening c.in-40.is)
     -- returns-2
-    (λ c. mark-E c.match.keys2)
+    (λ c. mark-E c.in-69.is)
     -- returns-3
-    (λ c. mark-R c.match.keys3)
+    (λ c. mark-R c.in-82.is)
     -- returns-4
-    (λ c. mark-D c.match.keys4)
+    (λ c. mark-D c.in-68.is)
     -- returns-5
-    (λ c. mark-B c.match.keys5)
+    (λ c. mark-B c.in-66.is)
     -- returns-6
-    (λ c. let r = c.match.rest in begins-none _ r.0.0.0.0.1 r.0.0.0.1 r.0.0.1 r.0.1 r.1))
+    (λ c. let r = c.in_default.in_default-own.rest in begins-none _ r.0.0.0.0.1 r.0.0.0.1 r.0.0.1 r.0.1 r.1))

@@ -19,6 +19,6 @@ with_digit_spec =
     -- add-w
     (λ c. omega arith)
     -- returns
-    (λ c. sym (sat_high _ c.if1.true))
+    (λ c. sym (sat_high _ c.if-w-gt99.true))
     -- returns-2
     (λ c. sym (sat_low _ (omega arith))))

@@ -8,29 +8,27 @@ use Rattle.fractions.proofs.Shares.{gcd-zero, gcd_next}
 use Rattle.fractions.proofs.gcd_of.Statement.{statement}
 use Rattle.fractions.proofs.gcd_of.Tie as tie
 
-abbrev invariant-loop : tie.invariant-loop
-invariant-loop first second a₀ b₀ a b = gcd a b ≡ gcd first second
+abbrev invariant-loop-b : tie.invariant-loop-b
+invariant-loop-b first second a₀ b₀ a b = gcd a b ≡ gcd first second
 
-abbrev decreases-loop : tie.decreases-loop
-decreases-loop first second a₀ b₀ a b = b
+abbrev decreases-loop-b : tie.decreases-loop-b
+decreases-loop-b first second a₀ b₀ a b = b
 
 pub gcd_of_spec : {M : Type 1} → statement M
 gcd_of_spec =
     tie.close
     (tie.spec
-    invariant-loop
-    decreases-loop
+    invariant-loop-b
+    decreases-loop-b
     -- loop-holds
     (λ c. refl)
     -- rem-rest
     (λ c. search rules)
     -- loop-less
-    (λ c. mod-lt c.before.loop.a (omega arith))
+    (λ c. mod-lt c.loop-b.a (omega arith))
     -- loop-again
     (λ c.
-    let at_loop = c.before in
-    sym (gcd_next at_loop.loop.a at_loop.loop.b (omega arith)) ∙ at_loop.loop.invariant)
+    sym (gcd_next c.loop-b.a c.loop-b.b (omega arith)) ∙ c.loop-b.invariant)
     -- returns
     (λ c.
-    let at_loop = c.before in
-    sym (gcd-zero at_loop.loop.a at_loop.loop.b (omega arith)) ∙ at_loop.loop.invariant))
+    sym (gcd-zero c.loop-b.a c.loop-b.b (omega arith)) ∙ c.loop-b.invariant))

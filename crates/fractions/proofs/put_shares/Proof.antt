@@ -10,27 +10,22 @@ use Rattle.fractions.proofs.Shares.{shares_left, shares_whole, shares_next, shar
 use Rattle.fractions.proofs.put_shares.Statement.{statement}
 use Rattle.fractions.proofs.put_shares.Tie as tie
 
-abbrev invariant-loop : tie.invariant-loop
-invariant-loop buffer₀ counts total to₀ k₀ buffer to k = (k ≤ 8) × (length counts ≡ 8) × (to ≤ 42 * k) × (total ≡ total_of counts) × Part buffer₀ 0 (shares_text counts) buffer to (shares_left total counts k)
+abbrev invariant-loop-k : tie.invariant-loop-k
+invariant-loop-k buffer₀ counts total to₀ k₀ buffer to k = (k ≤ 8) × (length counts ≡ 8) × (to ≤ 42 * k) × (total ≡ total_of counts) × Part buffer₀ 0 (shares_text counts) buffer to (shares_left total counts k)
 
-abbrev decreases-loop : tie.decreases-loop
-decreases-loop buffer₀ counts total to₀ k₀ buffer to k = 8 - k
-
--- The places that lie behind a place.
-
-abbrev at_loop_of_wide : tie.After-wide invariant-loop decreases-loop → tie.At-loop invariant-loop decreases-loop
-at_loop_of_wide c = c.before.before.before
+abbrev decreases-loop-k : tie.decreases-loop-k
+decreases-loop-k buffer₀ counts total to₀ k₀ buffer to k = 8 - k
 
 pub put_shares_spec : {M : Type 1} → statement M
 put_shares_spec =
     tie.close
     (tie.spec
-    invariant-loop
-    decreases-loop
+    invariant-loop-k
+    decreases-loop-k
     -- total-of-requires
     (λ c κs. search rules)
     -- loop-holds
-    (λ c. (omega arith, c.total_of.ensures.1, omega arith, c.total_of.ensures.0, part_from _ _ (shares_whole _ _ c.total_of.ensures.0)))
+    (λ c. (omega arith, c.total_of-total.ensures.1, omega arith, c.total_of-total.ensures.0, part_from _ _ (shares_whole _ _ c.total_of-total.ensures.0)))
     -- mul-wide
     (λ c. search rules)
     -- array-read-wide
@@ -39,25 +34,22 @@ put_shares_spec =
     (λ c κs. search rules)
     -- put-share-requires
     (λ c κs.
-    let at_loop = at_loop_of_wide c in
-    (omega arith, omega (arith, part_at_most at_loop.before.before.before.args.t2 at_loop.loop.k (omega arith))))
+    (omega arith, omega (arith, part_at_most c.args.counts c.loop-k.k (omega arith))))
     -- add-k
     (λ c. omega arith)
     -- loop-less
     (λ c. omega arith)
     -- loop-again
-    (λ c.
-    let after_put_share = c.before.before in let after_wide = after_put_share.before in let at_loop = at_loop_of_wide after_wide in (
+    (λ c. (
       omega arith,
-      at_loop.loop.inv.1,
-      omega (arith, after_put_share.put-share.ensures.1),
-      at_loop.loop.inv.3,
-      part_more at_loop.loop.inv.4 (shares_next _ _ at_loop.loop.k (omega arith))
-          (writes_as (share_as _ after_wide.wide.ensures.0) after_put_share.put-share.ensures.0),
+      c.loop-k.invariant.1,
+      omega (arith, c.put_share-to.ensures.1),
+      c.loop-k.invariant.3,
+      part_more c.loop-k.invariant.4 (shares_next _ _ c.loop-k.k (omega arith))
+          (writes_as (share_as _ c.wide.ensures.0) c.put_share-to.ensures.0),
     ))
     -- same-length
-    (λ c. part_length c.before.loop.invariant.4)
+    (λ c. part_length c.loop-k.invariant.4)
     -- returns
     (λ c.
-    let at_loop = c.before in
-    (part_all at_loop.loop.invariant.4 (shares_end _ _ at_loop.loop.k (omega arith)), omega arith)))
+    (part_all c.loop-k.invariant.4 (shares_end _ _ c.loop-k.k (omega arith)), omega arith)))

@@ -9,23 +9,18 @@ use Rattle.fractions.proofs.Shares.{total_next, total_end}
 use Rattle.fractions.proofs.total_of.Statement.{statement}
 use Rattle.fractions.proofs.total_of.Tie as tie
 
-abbrev invariant-loop : tie.invariant-loop
-invariant-loop counts sum₀ k₀ sum k = (k ≤ 8) × (length counts ≡ 8) × (sum ≤ 4294967295 * k) × (sum + total_of (drop k counts) ≡ total_of counts)
+abbrev invariant-loop-k : tie.invariant-loop-k
+invariant-loop-k counts sum₀ k₀ sum k = (k ≤ 8) × (length counts ≡ 8) × (sum ≤ 4294967295 * k) × (sum + total_of (drop k counts) ≡ total_of counts)
 
-abbrev decreases-loop : tie.decreases-loop
-decreases-loop counts sum₀ k₀ sum k = 8 - k
-
--- The places that lie behind a place.
-
-abbrev at_loop_of_wide : tie.After-wide invariant-loop decreases-loop → tie.At-loop invariant-loop decreases-loop
-at_loop_of_wide c = c.before.before
+abbrev decreases-loop-k : tie.decreases-loop-k
+decreases-loop-k counts sum₀ k₀ sum k = 8 - k
 
 pub total_of_spec : {M : Type 1} → statement M
 total_of_spec =
     tie.close
     (tie.spec
-    invariant-loop
-    decreases-loop
+    invariant-loop-k
+    decreases-loop-k
     -- loop-holds
     (λ c. (omega arith, omega arith, omega arith, omega arith))
     -- mul-wide
@@ -42,9 +37,7 @@ total_of_spec =
     (λ c. omega arith)
     -- loop-again
     (λ c.
-    let at_loop = at_loop_of_wide c in
-    (omega arith, omega arith, omega arith, omega (arith, total_next at_loop.before.args.t1 at_loop.loop.k (omega arith))))
+    (omega arith, omega arith, omega arith, omega (arith, total_next c.args.counts c.loop-k.k (omega arith))))
     -- returns
     (λ c.
-    let at_loop = c.before in
-    (omega (arith, total_end at_loop.before.args.t1 at_loop.loop.k (omega arith)), at_loop.loop.invariant.1)))
+    (omega (arith, total_end c.args.counts c.loop-k.k (omega arith)), c.loop-k.invariant.1)))

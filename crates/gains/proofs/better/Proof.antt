@@ -12,6 +12,6 @@ better_spec =
     tie.close
     (tie.spec
     -- returns
-    (λ c. sym (cond-true _ _ (lt-ltb _ _ c.if1.true)))
+    (λ c. sym (cond-true _ _ (lt-ltb _ _ c.if-best-score.true)))
     -- returns-2
-    (λ c. sym (cond-false _ _ (le-ltb _ _ c.if1.false))))
+    (λ c. sym (cond-false _ _ (le-ltb _ _ c.if-best-score.false))))

@@ -15,11 +15,9 @@ ones_spec =
     (λ c κs. search rules)
     -- cast-result
     (λ c.
-    let start = c.before in
-    let l = start.ranges.row.fits in
-    let m = and_le_l start.args.row c.up_to.result in
-    record { fits = omega (arith, ones-le 32 (bit_and start.args.row c.up_to.result) (omega arith)) })
+    let l = c.ranges.row.fits in
+    let m = and_le_l c.args.row c.up_to.result in
+    record { fits = omega (arith, ones-le 32 (bit_and c.args.row c.up_to.result) (omega arith)) })
     -- returns
     (λ c.
-    let start = c.before in
-    ones_up_to start.args.row c.up_to.result start.ranges.row.fits c.up_to.ensures))
+    ones_up_to c.args.row c.up_to.result c.ranges.row.fits c.up_to.ensures))

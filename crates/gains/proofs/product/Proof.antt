@@ -13,6 +13,6 @@ product_spec =
     -- returns-2
     (λ c. omega arith)
     -- mul-result
-    (λ c. omega (arith, mul-le-mul c.before.if1.false c.if2.false))
+    (λ c. omega (arith, mul-le-mul c.if-a-gt100000.false c.if-b-gt100000.false))
     -- returns-3
-    (λ c. omega (arith, mul-le-mul c.before.if1.false c.if2.false)))
+    (λ c. omega (arith, mul-le-mul c.if-a-gt100000.false c.if-b-gt100000.false)))

@@ -4,37 +4,26 @@ use native.Mathlib.Omega.{arith}
 use borrow.Author.Rules.{rules}
 use borrow.Author.Tests.{not-true}
 use mathlib.Core.List.{List}
-use mathlib.Core.Logic.{⊎_elim}
 use mathlib.Core.Path.{sym, ◌∙◌}
 use Rattle.units.proofs.Places.{lowest_in, total-found}
 use Rattle.gains.proofs.Keeps.{kept_same, kept_better}
 use Rattle.gains.specs.Keeps.{Keeps}
 use Rattle.gains.proofs.total_at.Statement.{statement}
+use Rattle.gains.proofs.total_at.Lts.{then-not-has+in-At, then-not-has+in_default, else-not-has}
 use Rattle.gains.proofs.total_at.Tie as tie
 
-abbrev invariant-loop : tie.invariant-loop
-invariant-loop k reach back y best₀ from near z₀ best z = (z ≤ 17) × ((n : ℕ) (link : List ℕ) → Keeps n k link reach best₀ best)
+abbrev invariant-loop-z : tie.invariant-loop-z
+invariant-loop-z k reach back y best₀ from near z₀ best z = (z ≤ 17) × ((n : ℕ) (link : List ℕ) → Keeps n k link reach best₀ best)
 
-abbrev decreases-loop : tie.decreases-loop
-decreases-loop k reach back y best₀ from near z₀ best z = 17 - z
-
--- The places that lie behind a place.
-
-abbrev at_loop_of_has : tie.After-has invariant-loop decreases-loop → tie.At-loop invariant-loop decreases-loop
-at_loop_of_has c = c.before.before
-
-abbrev start_of_at_loop : tie.At-loop invariant-loop decreases-loop → tie.Start invariant-loop decreases-loop
-start_of_at_loop c = c.before.before.before
-
-abbrev start_of_known_told : tie.After-known-told invariant-loop decreases-loop → tie.Start invariant-loop decreases-loop
-start_of_known_told c = start_of_at_loop (at_loop_of_has c.before.before.before.before.before.before)
+abbrev decreases-loop-z : tie.decreases-loop-z
+decreases-loop-z k reach back y best₀ from near z₀ best z = 17 - z
 
 pub total_at_spec : {M : Type 1} → statement M
 total_at_spec =
     tie.close
     (tie.spec
-    invariant-loop
-    decreases-loop
+    invariant-loop-z
+    decreases-loop-z
     -- mul-from
     (λ c. omega arith)
     -- element-copy-out-from
@@ -56,9 +45,9 @@ total_at_spec =
     -- enum-known-x
     (λ c. search rules)
     -- added-requires
-    (λ c κs. ((start_of_known_told c).requires.0, omega arith))
+    (λ c κs. (c.requires.0, omega arith))
     -- added-requires-2
-    (λ c κs. (omega arith, (start_of_known_told c.before).pre.0))
+    (λ c κs. (omega arith, c.requires.0))
     -- product-requires
     (λ c κs. search rules)
     -- better-requires
@@ -70,18 +59,19 @@ total_at_spec =
     -- loop-less
     (λ c. omega arith)
     -- loop-again
-    (λ c.
-    let at_loop = at_loop_of_has c.before in let start = start_of_at_loop at_loop in (
+    (λ c. (
       omega arith,
       λ n link s e p.
-          let a = start.args in
-          let h = at_loop.loop.inv.1 n link s e p in
-          ⊎_elim
-          (λ w. kept_better n s _ _ _ _ (w.10 ∙ w.9.ensures) h
-          (total-found n link a.reach.now s a.k e _ _ _ a.back.now start.pre.1 start.pre.0 (omega arith)
-          (sym c.before.has.ensures ∙ not-true _ w.0.taken) (lowest_in _ _ w.4.given.1 _ w.2.ensures)))
-          (λ v. ⊎_elim (λ w. kept_same n s _ _ w.5 h) (λ w. kept_same n s _ _ w.1 h) v)
-          c.if1.branch,
+          let a = c.args in
+          let h = c.loop-z.invariant.1 n link s e p in
+          elim c.if-not-has.branch [
+            | then-not-has+in-At w ↦
+                kept_better n s _ _ _ _ (w.best-is ∙ w.better-next.ensures) h
+                (total-found n link a.reach.now s a.k e _ _ _ a.back.now c.requires.1 c.requires.0 (omega arith)
+                (sym c.has.ensures ∙ w.if-not-has.true) (lowest_in _ _ w.in-At.is _ w.lowest.ensures))
+            | then-not-has+in_default w ↦ kept_same n s _ _ w.best-is h
+            | else-not-has w ↦ kept_same n s _ _ w.best-is h
+          ],
     ))
     -- returns
-    (λ c. c.before.loop.invariant.1))
+    (λ c. c.loop-z.invariant.1))

@@ -12,24 +12,24 @@ use Rattle.heap_nodes.proofs.Nodes.{counted_skip, counted_here, counted_all}
 use Rattle.heap_nodes.proofs.count_marks.Statement.{statement}
 use Rattle.heap_nodes.proofs.count_marks.Tie as tie
 
-abbrev invariant-loop : tie.invariant-loop
-invariant-loop marks n count₀ end t₀ count t =
+abbrev invariant-loop-t : tie.invariant-loop-t
+invariant-loop-t marks n count₀ end t₀ count t =
     (count ≤ t)
     × (count + length (select (λ x. get_or marks x false) (from (n + 1 - t) t)) ≡ length (select (λ x. get_or marks x false) (from (n + 1 - 0) 0)))
 
-abbrev decreases-loop : tie.decreases-loop
-decreases-loop marks n count₀ end t₀ count t = n + 1 - t
+abbrev decreases-loop-t : tie.decreases-loop-t
+decreases-loop-t marks n count₀ end t₀ count t = n + 1 - t
 
-returns : tie.Need-returns invariant-loop decreases-loop
+returns : tie.Need-returns invariant-loop-t decreases-loop-t
 unfolding marked
-returns c = counted_all _ _ _ _ _ c.before.loop.invariant.1 (omega arith)
+returns c = counted_all _ _ _ _ _ c.loop-t.invariant.1 (omega arith)
 
 pub count_marks_spec : {M : Type 1} → statement M
 count_marks_spec =
     tie.close
     (tie.spec
-    invariant-loop
-    decreases-loop
+    invariant-loop-t
+    decreases-loop-t
     -- add-end
     (λ c. search rules)
     -- loop-holds
@@ -41,7 +41,7 @@ count_marks_spec =
     -- loop-less
     (λ c. omega arith)
     -- loop-again
-    (λ c. (omega arith, counted_skip _ _ _ _ _ c.before.before.before.loop.invariant.1 (omega arith) (not-true _ c.if1.true)))
+    (λ c. (omega arith, counted_skip _ _ _ _ _ c.loop-t.invariant.1 (omega arith) c.if-not-marks-t.true))
     -- add-count
     (λ c. omega arith)
     -- add-t-2
@@ -49,5 +49,5 @@ count_marks_spec =
     -- loop-less-2
     (λ c. omega arith)
     -- loop-again-2
-    (λ c. (omega arith, counted_here _ _ _ _ _ c.before.before.before.loop.invariant.1 (omega arith) (not-false _ c.if1.false)))
+    (λ c. (omega arith, counted_here _ _ _ _ _ c.loop-t.invariant.1 (omega arith) c.if-not-marks-t.false))
     returns)

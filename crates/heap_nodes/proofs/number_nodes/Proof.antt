@@ -11,27 +11,27 @@ use Rattle.heap_nodes.proofs.Nodes.{Numbered, numbered_none, numbered_skip, numb
 use Rattle.heap_nodes.proofs.number_nodes.Statement.{statement}
 use Rattle.heap_nodes.proofs.number_nodes.Tie as tie
 
-abbrev invariant-loop : tie.invariant-loop
-invariant-loop marks n m last nodes₀ k₀ end t₀ nodes k t =
+abbrev invariant-loop-t : tie.invariant-loop-t
+invariant-loop-t marks n m last nodes₀ k₀ end t₀ nodes k t =
     (k ≤ t) × (length nodes ≡ 17) × Numbered (λ x. get_or marks x false) n m t k (node_of nodes)
 
-abbrev decreases-loop : tie.decreases-loop
-decreases-loop marks n m last nodes₀ k₀ end t₀ nodes k t = n + 1 - t
+abbrev decreases-loop-t : tie.decreases-loop-t
+decreases-loop-t marks n m last nodes₀ k₀ end t₀ nodes k t = n + 1 - t
 
-loop_holds : tie.Need-loop-init invariant-loop decreases-loop
+loop_holds : tie.Need-loop-t-init invariant-loop-t decreases-loop-t
 unfolding marked
 loop_holds c = (omega arith, search rules, numbered_none _ _ _ _ c.requires.2 (λ x h. node_repeat _ x h))
 
-returns : tie.Need-returns invariant-loop decreases-loop
+returns : tie.Need-returns invariant-loop-t decreases-loop-t
 unfolding marked
-returns c = numbered_all _ _ _ _ _ _ c.before.loop.invariant.2 (omega arith)
+returns c = numbered_all _ _ _ _ _ _ c.loop-t.invariant.2 (omega arith)
 
 pub number_nodes_spec : {M : Type 1} → statement M
 number_nodes_spec =
     tie.close
     (tie.spec
-    invariant-loop
-    decreases-loop
+    invariant-loop-t
+    decreases-loop-t
     -- cast-last
     (λ c. omega arith)
     -- add-end
@@ -45,8 +45,7 @@ number_nodes_spec =
     (λ c. omega arith)
     -- loop-again
     (λ c.
-    let at_loop = c.before.before.before in
-    (omega arith, at_loop.loop.invariant.1, numbered_skip _ _ _ _ _ _ at_loop.loop.invariant.2 (omega arith) (omega arith) (not-true _ c.if1.true)))
+    (omega arith, c.loop-t.invariant.1, numbered_skip _ _ _ _ _ _ c.loop-t.invariant.2 (omega arith) (omega arith) c.if-not-marks-t.true))
     -- add-k
     (λ c. omega arith)
     -- cast-nodes
@@ -59,9 +58,9 @@ number_nodes_spec =
     (λ c. omega arith)
     -- loop-again-2
     (λ c.
-    let l = c.before.before.before.loop in (
+    let l = c.loop-t in (
       omega arith,
       simp length-set l.invariant.1,
-      numbered_here _ _ _ _ _ _ l.invariant.2 (omega arith) (omega arith) (not-false _ c.if1.false) _ (λ x. node_set l.nodes l.t (omega arith) _ x),
+      numbered_here _ _ _ _ _ _ l.invariant.2 (omega arith) (omega arith) c.if-not-marks-t.false _ (λ x. node_set l.nodes l.t (omega arith) _ x),
     ))
     returns)

@@ -11,71 +11,53 @@ use Rattle.heap_nodes.proofs.Writing.{PutAt, put-at-none, put-at_skip, put-at-pl
 use Rattle.heap_nodes.proofs.put_nodes.Statement.{statement}
 use Rattle.heap_nodes.proofs.put_nodes.Tie as tie
 
-abbrev invariant-loop : tie.invariant-loop
-invariant-loop buffer₀ at bytes marks nodes n end t₀ buffer t = PutAt (λ x. get_or marks x false) (λ x. get_or bytes x 0) n at t buffer₀ buffer
+abbrev invariant-loop-t : tie.invariant-loop-t
+invariant-loop-t buffer₀ at bytes marks nodes n end t₀ buffer t = PutAt (λ x. get_or marks x false) (λ x. get_or bytes x 0) n at t buffer₀ buffer
 
-abbrev decreases-loop : tie.decreases-loop
-decreases-loop buffer₀ at bytes marks nodes n end t₀ buffer t = n + 1 - t
-
--- The places that lie behind a place.
-
-abbrev start_of_at_loop : tie.At-loop invariant-loop decreases-loop → tie.Start invariant-loop decreases-loop
-start_of_at_loop c = c.before.before
-
-abbrev else1_of_struct_known : tie.After-struct-known invariant-loop decreases-loop → tie.Else1 invariant-loop decreases-loop
-else1_of_struct_known c = c.before.before
-
-abbrev node_of_of_buffer : tie.After-buffer invariant-loop decreases-loop → tie.After-node-of invariant-loop decreases-loop
-node_of_of_buffer c = c.before.before
-
-abbrev at_loop_of_else1 : tie.Else1 invariant-loop decreases-loop → tie.At-loop invariant-loop decreases-loop
-at_loop_of_else1 c = c.before.before.before
+abbrev decreases-loop-t : tie.decreases-loop-t
+decreases-loop-t buffer₀ at bytes marks nodes n end t₀ buffer t = n + 1 - t
 
 -- the node of t is its place, and there is room for its byte
-add_to : tie.Need-overflow-add-to invariant-loop decreases-loop
+add_to : tie.Need-overflow_add-to invariant-loop-t decreases-loop-t
 unfolding marked
 add_to c =
-    let else1 = else1_of_struct_known c in let at_loop = at_loop_of_else1 else1 in let start = start_of_at_loop at_loop in
-    let l = at_loop.loop in
-    let p = start.pre in
-    let node = c.before.node-of.ensures.0 ∙ p.2 l.t (omega arith) in
-    let h = put-at_room _ _ _ _ _ _ _ l.inv (omega arith) (not-false _ else1.if1.left) _ node p.1 in
-    omega (arith, put-at-place _ _ _ _ _ _ _ l.inv (omega arith) (not-false _ else1.if1.left) _ node, l.inv.put.same, start.good)
+    let l = c.loop-t in
+    let p = c.requires in
+    let node = c.node_of-node.ensures.0 ∙ p.2 l.t (omega arith) in
+    let h = put-at_room _ _ _ _ _ _ _ l.invariant (omega arith) c.if-not-marks-t.false _ node p.1 in
+    omega (arith, put-at-place _ _ _ _ _ _ _ l.invariant (omega arith) c.if-not-marks-t.false _ node, l.invariant.put.same, c.well_formed)
 
-sub_to : tie.Need-overflow-sub-to invariant-loop decreases-loop
+sub_to : tie.Need-overflow_sub-to invariant-loop-t decreases-loop-t
 unfolding marked
 sub_to c =
-    let else1 = else1_of_struct_known c in let at_loop = at_loop_of_else1 else1 in
-    let l = at_loop.loop in
-    let p = (start_of_at_loop at_loop).pre in
-    omega (arith, put-at-place _ _ _ _ _ _ _ l.inv (omega arith) (not-false _ else1.if1.left) _ (c.before.node-of.ensures.0 ∙ p.2 l.t (omega arith)))
+    let l = c.loop-t in
+    let p = c.requires in
+    omega (arith, put-at-place _ _ _ _ _ _ _ l.invariant (omega arith) c.if-not-marks-t.false _ (c.node_of-node.ensures.0 ∙ p.2 l.t (omega arith)))
 
-slice_write_buffer : tie.Need-slice-write-buffer invariant-loop decreases-loop
+slice_write_buffer : tie.Need-bounds-buffer-to invariant-loop-t decreases-loop-t
 unfolding marked
 slice_write_buffer c =
-    let else1 = else1_of_struct_known c.before in let at_loop = at_loop_of_else1 else1 in
-    let l = at_loop.loop in
-    let p = (start_of_at_loop at_loop).pre in
-    put-at_room _ _ _ _ _ _ _ l.inv (omega arith) (not-false _ else1.if1.left) _ ((node_of_of_buffer c).node-of.ensures.0 ∙ p.2 l.t (omega arith)) p.1
+    let l = c.loop-t in
+    let p = c.requires in
+    put-at_room _ _ _ _ _ _ _ l.invariant (omega arith) c.if-not-marks-t.false _ (c.node_of-node.ensures.0 ∙ p.2 l.t (omega arith)) p.1
 
-loop_again_2 : tie.Need-loop-preserved-2 invariant-loop decreases-loop
+loop_again_2 : tie.Need-loop-t-preserved invariant-loop-t decreases-loop-t
 unfolding marked
 loop_again_2 c =
-    let else1 = else1_of_struct_known c.before in let at_loop = at_loop_of_else1 else1 in
-    let l = at_loop.loop in
-    let p = (start_of_at_loop at_loop).pre in
-    put-at-here _ _ _ _ _ _ _ l.inv (omega arith) (not-false _ else1.if1.left) _ ((node_of_of_buffer c).node-of.ensures.0 ∙ p.2 l.t (omega arith)) p.1 _ refl
+    let l = c.loop-t in
+    let p = c.requires in
+    put-at-here _ _ _ _ _ _ _ l.invariant (omega arith) c.if-not-marks-t.false _ (c.node_of-node.ensures.0 ∙ p.2 l.t (omega arith)) p.1 _ refl
 
-returns : tie.Need-returns invariant-loop decreases-loop
+returns : tie.Need-returns invariant-loop-t decreases-loop-t
 unfolding marked
-returns c = put-at_all _ _ _ _ _ _ _ c.before.loop.invariant (omega arith)
+returns c = put-at_all _ _ _ _ _ _ _ c.loop-t.invariant (omega arith)
 
 pub put_nodes_spec : {M : Type 1} → statement M
 put_nodes_spec =
     tie.close
     (tie.spec
-    invariant-loop
-    decreases-loop
+    invariant-loop-t
+    decreases-loop-t
     -- add-end
     (λ c. search rules)
     -- loop-holds
@@ -87,7 +69,7 @@ put_nodes_spec =
     -- loop-less
     (λ c. omega arith)
     -- loop-again
-    (λ c. put-at_skip _ _ _ _ _ _ _ c.before.before.before.loop.invariant (omega arith) (not-true _ c.if1.true))
+    (λ c. put-at_skip _ _ _ _ _ _ _ c.loop-t.invariant (omega arith) c.if-not-marks-t.true)
     -- node-of-requires
     (λ c κs. omega arith)
     add_to
@@ -101,5 +83,5 @@ put_nodes_spec =
     (λ c. omega arith)
     loop_again_2
     -- same-length
-    (λ c. c.before.loop.invariant.put.same)
+    (λ c. c.loop-t.invariant.put.same)
     returns)

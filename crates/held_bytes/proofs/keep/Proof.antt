@@ -20,4 +20,4 @@ keep_spec =
     -- same-length
     (λ c. search rules)
     -- returns
-    (λ c. (omega arith, kept_behind _ _ c.before.before.before.before.at_most.ensures _ _ c.before.before.move-back.ensures)))
+    (λ c. (omega arith, kept_behind _ _ c.before.before.before.before.at_most-ordered.ensures _ _ c.before.before.move_back.ensures)))

@@ -8,6 +8,6 @@ must_wait_spec =
     tie.close
     (tie.spec
     -- returns
-    (λ c. wait_ended _ _ c.if1.true)
+    (λ c. wait_ended _ _ c.if-ended.true)
     -- returns-2
-    (λ c. wait_open _ _ c.if1.false))
+    (λ c. wait_open _ _ c.if-ended.false))

@@ -8,32 +8,6 @@ use Rattle.joiner.proofs.Answers as law
 use Rattle.joiner.proofs.hand_back.Statement.{statement}
 use Rattle.joiner.proofs.hand_back.Tie as tie
 
--- The places that lie behind a place.
-
-abbrev k3_of_result5 : tie.After-result5 → tie.After-k3
-k3_of_result5 c = c.before.before
-
-abbrev k2_of_result4 : tie.After-result4 → tie.After-k2
-k2_of_result4 c = c.before.before
-
-abbrev shared_slice_known2_of_find_named : tie.After-find-named → tie.After-shared-slice-known2
-shared_slice_known2_of_find_named c = c.before.before
-
-abbrev k_of_result3 : tie.After-result3 → tie.After-k
-k_of_result3 c = c.before.before
-
-abbrev shared_slice_known_of_find_named : tie.After-find-named → tie.After-shared-slice-known
-shared_slice_known_of_find_named c = (shared_slice_known2_of_find_named c).before
-
-abbrev find_named_of_known_told : tie.After-known-told → tie.After-find-named
-find_named_of_known_told c = c.before.before.before
-
-abbrev find_named_of_known_told2 : tie.After-known-told2 → tie.After-find-named
-find_named_of_known_told2 c = c.before.before.before
-
-abbrev start_of_find_named : tie.After-find-named → tie.Start
-start_of_find_named c = (shared_slice_known_of_find_named c).before
-
 pub hand_back_spec : {M : Type 1} → statement M
 hand_back_spec =
     tie.close
@@ -44,12 +18,11 @@ hand_back_spec =
     (λ c. search rules)
     -- add-end
     (λ c.
-    let after_find_named = find_named_of_known_told c in let start = start_of_find_named after_find_named in
     omega (
       arith,
-      subst (λ (x : HandBack). law.InsideOf (length start.args.first.now) (length start.args.second.now) x)
-          c.before.at.given.1 after_find_named.find-named.ensures.1,
-      (shared_slice_known_of_find_named after_find_named).shared-slice-known.given 0,
+      subst (λ (x : HandBack). law.InsideOf (length c.args.first.now) (length c.args.second.now) x)
+          c.in-InFirst.is c.find_named.ensures.1,
+      c.shared_slice_known-1.given 0,
     ))
     -- sub-result
     (λ c. search rules)
@@ -57,18 +30,16 @@ hand_back_spec =
     (λ c. search rules)
     -- part-result-end
     (λ c.
-    let after_find_named = find_named_of_known_told c in let start = start_of_find_named after_find_named in
-    subst (λ (x : HandBack). law.InsideOf (length start.args.first.now) (length start.args.second.now) x) c.before.at.given.1 after_find_named.find-named.ensures.1)
+    subst (λ (x : HandBack). law.InsideOf (length c.args.first.now) (length c.args.second.now) x) c.in-InFirst.is c.find_named.ensures.1)
     -- enum-known-at-2
     (λ c. search rules)
     -- add-end-2
     (λ c.
-    let after_find_named = find_named_of_known_told2 c in let start = start_of_find_named after_find_named in
     omega (
       arith,
-      subst (λ (x : HandBack). law.InsideOf (length start.args.first.now) (length start.args.second.now) x)
-          c.before.at2.given.1 after_find_named.find-named.ensures.1,
-      (shared_slice_known2_of_find_named after_find_named).shared-slice-known2.given 0,
+      subst (λ (x : HandBack). law.InsideOf (length c.args.first.now) (length c.args.second.now) x)
+          c.in-InSecond.is c.find_named.ensures.1,
+      c.shared_slice_known-2-1.given 0,
     ))
     -- sub-result-2
     (λ c. search rules)
@@ -76,8 +47,7 @@ hand_back_spec =
     (λ c. search rules)
     -- part-result-end-2
     (λ c.
-    let after_find_named = find_named_of_known_told2 c in let start = start_of_find_named after_find_named in
-    subst (λ (x : HandBack). law.InsideOf (length start.args.first.now) (length start.args.second.now) x) c.before.at2.given.1 after_find_named.find-named.ensures.1)
+    subst (λ (x : HandBack). law.InsideOf (length c.args.first.now) (length c.args.second.now) x) c.in-InSecond.is c.find_named.ensures.1)
     -- enum-known-k
     (λ c. search rules)
     -- sub-result-3
@@ -104,21 +74,16 @@ hand_back_spec =
     (λ c. search rules)
     -- returns
     (λ c.
-    let after_find_named = find_named_of_known_told c.before in let start = start_of_find_named after_find_named in
-    law.part_first start.args.first.now start.args.second.now start.args.line.now after_find_named.find-named.ensures.0 c.before.before.at.given.1)
+    law.part_first c.args.first.now c.args.second.now c.args.line.now c.find_named.ensures.0 c.in-InFirst.is)
     -- returns-2
     (λ c.
-    let after_find_named = find_named_of_known_told2 c.before in let start = start_of_find_named after_find_named in
-    law.part_second start.args.first.now start.args.second.now start.args.line.now after_find_named.find-named.ensures.0 c.before.before.at2.given.1)
+    law.part_second c.args.first.now c.args.second.now c.args.line.now c.find_named.ensures.0 c.in-InSecond.is)
     -- returns-3
     (λ c.
-    let after_k = k_of_result3 c in let after_find_named = after_k.before.before in let start = start_of_find_named after_find_named in
-    law.empty_first start.args.first.now start.args.second.now start.args.line.now after_find_named.find-named.ensures.0 after_k.k.given.1)
+    law.empty_first c.args.first.now c.args.second.now c.args.line.now c.find_named.ensures.0 c.in-FirstRefused.is)
     -- returns-4
     (λ c.
-    let after_k2 = k2_of_result4 c in let after_find_named = after_k2.before.before in let start = start_of_find_named after_find_named in
-    law.empty_second start.args.first.now start.args.second.now start.args.line.now after_find_named.find-named.ensures.0 after_k2.k2.given.1)
+    law.empty_second c.args.first.now c.args.second.now c.args.line.now c.find_named.ensures.0 c.in-SecondRefused.is)
     -- returns-5
     (λ c.
-    let after_k3 = k3_of_result5 c in let after_find_named = after_k3.before.before in let start = start_of_find_named after_find_named in
-    law.empty_other start.args.first.now start.args.second.now start.args.line.now after_find_named.find-named.ensures.0 after_k3.k3.given.1))
+    law.empty_other c.args.first.now c.args.second.now c.args.line.now c.find_named.ensures.0 c.in-Refused.is))

@@ -4,30 +4,21 @@ use Rattle.joiner.proofs.Answers as law
 use Rattle.joiner.proofs.place_in.Statement.{statement}
 use Rattle.joiner.proofs.place_in.Tie as tie
 
--- The places that lie behind a place.
-
-abbrev start_of_start_in : tie.After-start-in → tie.Start
-start_of_start_in c = c.before.before
-
 pub place_in_spec : {M : Type 1} → statement M
 place_in_spec =
     tie.close
     (tie.spec
     -- start-in-requires
-    (λ c κs. c.before.requires.0)
+    (λ c κs. c.requires.0)
     -- sub-result
     (λ c.
-    let start = start_of_start_in c in
-    omega (arith, start.pre.1, start.pre.2, c.start-in.ensures.1))
+    omega (arith, c.requires.1, c.requires.2, c.start_in-start.ensures.1))
     -- mul-result
     (λ c.
-    let start = start_of_start_in c in
-    omega (arith, start.pre.1, start.pre.2, c.start-in.ensures.1))
+    omega (arith, c.requires.1, c.requires.2, c.start_in-start.ensures.1))
     -- add-result
     (λ c.
-    let start = start_of_start_in c in
-    omega (arith, start.pre.1, start.pre.2, c.start-in.ensures.1))
+    omega (arith, c.requires.1, c.requires.2, c.start_in-start.ensures.1))
     -- returns
     (λ c.
-    let start = start_of_start_in c in
-    law.place_there start.args.query.now start.args.s start.args.k c.start-in.ensures.0))
+    law.place_there c.args.query.now c.args.s c.args.k c.start_in-start.ensures.0))

@@ -14,125 +14,83 @@ use Rattle.joiner.proofs.Laws.{rest, rest_next, rest_end, raised_at, literals-al
 use Rattle.joiner.proofs.put_literals.Statement.{statement}
 use Rattle.joiner.proofs.put_literals.Tie as tie
 
-abbrev invariant-loop : tie.invariant-loop
-invariant-loop query at count i j out₀ to next₀ k₀ out next k =
+abbrev invariant-loop-k : tie.invariant-loop-k
+invariant-loop-k query at count i j out₀ to next₀ k₀ out next k =
     Part out₀ to (flat_map literal_bytes (map (raised i j) (literals (take (3 * count) (drop at query))))) out next (rest literal_bytes (raised_at query at i j) count k)
     × (next ≡ to + 3 * k)
     × (k ≤ count)
 
-abbrev decreases-loop : tie.decreases-loop
-decreases-loop query at count i j out₀ to next₀ k₀ out next k = count - k
-
--- The places that lie behind a place.
-
-abbrev in_loop_of_field : tie.After-field invariant-loop decreases-loop → tie.In-loop invariant-loop decreases-loop
-in_loop_of_field c = c.before.before
-
-abbrev right_of_struct_known : tie.After-struct-known invariant-loop decreases-loop → tie.After-right invariant-loop decreases-loop
-right_of_struct_known c = c.before.before
-
-abbrev start_of_slice_known : tie.After-slice-known invariant-loop decreases-loop → tie.Start invariant-loop decreases-loop
-start_of_slice_known c = c.before.before
-
-abbrev put_literal_of_slice_known2 : tie.After-slice-known2 invariant-loop decreases-loop → tie.After-put-literal invariant-loop decreases-loop
-put_literal_of_slice_known2 c = c.before.before
-
-abbrev field_of_put_literal_arg : tie.After-put-literal-arg invariant-loop decreases-loop → tie.After-field invariant-loop decreases-loop
-field_of_put_literal_arg c = c.before.before
-
-abbrev start_of_at_loop : tie.At-loop invariant-loop decreases-loop → tie.Start invariant-loop decreases-loop
-start_of_at_loop c = start_of_slice_known c.before
-
-abbrev at_loop_of_field : tie.After-field invariant-loop decreases-loop → tie.At-loop invariant-loop decreases-loop
-at_loop_of_field c = (in_loop_of_field c).before
-
-abbrev start_of_in_loop : tie.In-loop invariant-loop decreases-loop → tie.Start invariant-loop decreases-loop
-start_of_in_loop c = start_of_at_loop c.before
-
-abbrev in_loop_of_struct_known : tie.After-struct-known invariant-loop decreases-loop → tie.In-loop invariant-loop decreases-loop
-in_loop_of_struct_known c = in_loop_of_field (field_of_put_literal_arg c.before)
-
-abbrev in_loop_of_slice_known2 : tie.After-slice-known2 invariant-loop decreases-loop → tie.In-loop invariant-loop decreases-loop
-in_loop_of_slice_known2 c = in_loop_of_struct_known (put_literal_of_slice_known2 c).before
+abbrev decreases-loop-k : tie.decreases-loop-k
+decreases-loop-k query at count i j out₀ to next₀ k₀ out next k = count - k
 
 pub put_literals_spec : {M : Type 1} → statement M
 put_literals_spec =
     tie.close
     (tie.spec
-    invariant-loop
-    decreases-loop
+    invariant-loop-k
+    decreases-loop-k
     -- loop-holds
     (λ c.
-    let start = start_of_slice_known c in
-    (part_from _ _ (literals-all start.args.query.now start.args.at start.args.count start.args.i start.args.j start.pre.0), omega arith, omega arith))
+    (part_from _ _ (literals-all c.args.query.now c.args.at c.args.count c.args.i c.args.j c.requires.0), omega arith, omega arith))
     -- sign-requires
-    (λ c κs. omega (arith, (start_of_in_loop c).requires.0, c.loop-test.true))
+    (λ c κs. omega (arith, c.requires.0, c.loop-k-test.true))
     -- field-requires
-    (λ c κs. omega (arith, (start_of_in_loop c.before).pre.0, c.before.loop-test.true))
+    (λ c κs. omega (arith, c.requires.0, c.loop-k-test.true))
     -- right-requires
     (λ c κs.
-    let in_loop = in_loop_of_field c in
-    omega (arith, (start_of_in_loop in_loop).pre.0, in_loop.loop-test.taken))
+    omega (arith, c.requires.0, c.loop-k-test.true))
     -- add-put-literal
     (λ c.
-    let after_field = field_of_put_literal_arg c in let in_loop = in_loop_of_field after_field in let start = start_of_in_loop in_loop in
     omega (
       arith,
-      after_field.field.ensures,
-      (literal_small start.args.query.now start.args.at start.args.count start.args.i
-          start.args.j start.pre.0 start.pre.2 (at_loop_of_field after_field).loop.k in_loop.loop-test.taken).0,
+      c.field-left.ensures,
+      (literal_small c.args.query.now c.args.at c.args.count c.args.i
+          c.args.j c.requires.0 c.requires.2 c.loop-k.k c.loop-k-test.true).0,
     ))
     -- add-put-literal-2
     (λ c.
-    let in_loop = in_loop_of_struct_known c in let start = start_of_in_loop in_loop in
     omega (
       arith,
-      (right_of_struct_known c).right.ensures,
-      (literal_small start.args.query.now start.args.at start.args.count start.args.i start.args.j start.pre.0 start.pre.2
-          in_loop.before.loop.k in_loop.loop-test.taken).1,
+      c.right-right.ensures,
+      (literal_small c.args.query.now c.args.at c.args.count c.args.i c.args.j c.requires.0 c.requires.2
+          c.loop-k.k c.loop-k-test.true).1,
     ))
     -- put-literal-requires
     (λ c κs.
-    let after_field = field_of_put_literal_arg c.before in let in_loop = in_loop_of_struct_known c in
-    let at_loop = at_loop_of_field after_field in let start = start_of_in_loop in_loop in let loop_test_taken = in_loop.loop-test.taken in (
-      omega (arith, at_loop.loop.inv.1, start.pre.1, loop_test_taken),
+    let loop_test_taken = c.loop-k-test.true in (
+      omega (arith, c.loop-k.invariant.1, c.requires.1, loop_test_taken),
       omega (
         arith,
-        after_field.field.ensures,
-        (literal_small start.args.query.now start.args.at start.args.count start.args.i
-            start.args.j start.pre.0 start.pre.2 at_loop.loop.k loop_test_taken).0,
+        c.field-left.ensures,
+        (literal_small c.args.query.now c.args.at c.args.count c.args.i
+            c.args.j c.requires.0 c.requires.2 c.loop-k.k loop_test_taken).0,
       ),
       omega (
         arith,
-        (right_of_struct_known c).right.ensures,
-        (literal_small start.args.query.now start.args.at start.args.count start.args.i start.args.j start.pre.0 start.pre.2
-            at_loop.loop.k loop_test_taken).1,
+        c.right-right.ensures,
+        (literal_small c.args.query.now c.args.at c.args.count c.args.i c.args.j c.requires.0 c.requires.2
+            c.loop-k.k loop_test_taken).1,
       ),
     ))
     -- add-k
     (λ c.
-    let in_loop = in_loop_of_slice_known2 c in
-    omega (arith, (start_of_in_loop in_loop).pre.1, in_loop.loop-test.taken))
+    omega (arith, c.requires.1, c.loop-k-test.true))
     -- loop-less
-    (λ c. omega (arith, (in_loop_of_slice_known2 c).loop-test.true))
+    (λ c. omega (arith, c.loop-k-test.true))
     -- loop-again
-    (λ c.
-    let after_put_literal = put_literal_of_slice_known2 c in let after_right = right_of_struct_known after_put_literal.before in
-    let after_field = after_right.before in let in_loop = in_loop_of_slice_known2 c in let at_loop = at_loop_of_field after_field in
-    let start = start_of_in_loop in_loop in (
-      part_more at_loop.loop.inv.0
-          (rest_next literal_bytes (raised_at start.args.query.now start.args.at start.args.i start.args.j) start.args.count
-          at_loop.loop.k in_loop.loop-test.taken)
-          (writes_as (literal-bytes start.args.i start.args.j (literal_in start.args.query.now start.args.at at_loop.loop.k)
-          after_field.before.sign.ensures after_field.field.ensures after_right.right.ensures) after_put_literal.put-literal.ensures),
-      omega (arith, at_loop.loop.inv.1, after_put_literal.put-literal.ensures.ends),
-      omega (arith, in_loop.loop-test.taken),
+    (λ c. (
+      part_more c.loop-k.invariant.0
+          (rest_next literal_bytes (raised_at c.args.query.now c.args.at c.args.i c.args.j) c.args.count
+          c.loop-k.k c.loop-k-test.true)
+          (writes_as (literal-bytes c.args.i c.args.j (literal_in c.args.query.now c.args.at c.loop-k.k)
+          c.sign-plain.ensures c.field-left.ensures c.right-right.ensures) c.put_literal-next.ensures),
+      omega (arith, c.loop-k.invariant.1, c.put_literal-next.ensures.ends),
+      omega (arith, c.loop-k-test.true),
     ))
     -- same-length
-    (λ c. part_length c.before.loop.invariant.0)
+    (λ c. part_length c.loop-k.invariant.0)
     -- returns
     (λ c.
-    let at_loop = c.before in let start = start_of_at_loop at_loop in
-    part_all at_loop.loop.invariant.0
-    (rest_end literal_bytes (raised_at start.args.query.now start.args.at start.args.i start.args.j) start.args.count
-    at_loop.loop.k c.loop-test.false)))
+    part_all c.loop-k.invariant.0
+    (rest_end literal_bytes (raised_at c.args.query.now c.args.at c.args.i c.args.j) c.args.count
+    c.loop-k.k c.loop-k-test.false)))

@@ -9,10 +9,10 @@ raised_entry_spec =
     tie.close
     (tie.spec
     -- returns
-    (λ c. raised_kept _ _ c.if1.true)
+    (λ c. raised_kept _ _ c.if-e-eq0.true)
     -- returns-2
-    (λ c. raised-nil _ _ c.if2.true)
+    (λ c. raised-nil _ _ c.if-e-eq255.true)
     -- add-result
-    (λ c. omega (arith, c.before.before.requires))
+    (λ c. omega (arith, c.requires))
     -- returns-3
-    (λ c. raised_more _ _ c.before.if1.false c.if2.false))
+    (λ c. raised_more _ _ c.if-e-eq0.false c.if-e-eq255.false))

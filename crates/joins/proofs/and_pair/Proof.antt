@@ -20,7 +20,6 @@ and_pair_spec =
     (λ c. omega arith)
     -- returns
     (λ c.
-    let start = c.before.before in
-    let a = start.args in
-    let p = start.requires in
+    let a = c.args in
+    let p = c.requires in
     (pairs_more a.kept.now a.replaced.now a.count _ _ (omega arith) (omega arith), simp length-set p.3, simp length-set p.4)))

@@ -10,4 +10,5 @@ unfolding pairs_of from
 returns c = refl
 
 pub no_pairs_spec : {M : Type 1} → statement M
-no_pairs_spec = tie.close (tie.spec returns)
+no_pairs_spec = tie.close (tie.spec
+    returns)

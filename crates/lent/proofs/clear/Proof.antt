@@ -9,18 +9,18 @@ use Rattle.lent.proofs.Writing.{clear_more, clear_all}
 use Rattle.lent.proofs.clear.Statement.{statement}
 use Rattle.lent.proofs.clear.Tie as tie
 
-abbrev invariant-loop : tie.invariant-loop
-invariant-loop buffer₀ i₀ buffer i = (i ≤ length buffer₀) × (length buffer ≡ length buffer₀) × (buffer ≡ replicate i 0 ++ drop i buffer₀)
+abbrev invariant-loop-i : tie.invariant-loop-i
+invariant-loop-i buffer₀ i₀ buffer i = (i ≤ length buffer₀) × (length buffer ≡ length buffer₀) × (buffer ≡ replicate i 0 ++ drop i buffer₀)
 
-abbrev decreases-loop : tie.decreases-loop
-decreases-loop buffer₀ i₀ buffer i = length buffer₀ - i
+abbrev decreases-loop-i : tie.decreases-loop-i
+decreases-loop-i buffer₀ i₀ buffer i = length buffer₀ - i
 
 pub clear_spec : {M : Type 1} → statement M
 clear_spec =
     tie.close
     (tie.spec
-    invariant-loop
-    decreases-loop
+    invariant-loop-i
+    decreases-loop-i
     -- loop-holds
     (λ c. (omega arith, refl, refl))
     -- slice-write-buffer
@@ -31,7 +31,7 @@ clear_spec =
     (λ c. omega arith)
     -- loop-again
     (λ c.
-    let l = c.before.loop in (
+    let l = c.before.loop-i in (
       omega arith,
       simp length-set l.invariant.1,
       ap (λ (xs : List ℕ). set xs l.i 0) l.invariant.2 ∙ clear_more _ l.i (omega arith),
@@ -39,4 +39,4 @@ clear_spec =
     -- same-length
     (λ c. search rules)
     -- returns
-    (λ c. c.before.loop.invariant.2 ∙ clear_all _ c.before.loop.i (omega arith) (omega arith)))
+    (λ c. c.before.loop-i.invariant.2 ∙ clear_all _ c.before.loop-i.i (omega arith) (omega arith)))

@@ -22,5 +22,5 @@ put_linked_spec =
     -- same-length
     (λ c. search rules)
     -- returns
-    (λ c. writes_as (linked_text c.before.before.before.before.before.before.before.before.before.before.args.query.now _
-    c.before.before.before.before.before.before.rewrite.ensures (length-replicate {A = ℕ} 637 0)) c.before.before.put-answer.ensures))
+    (λ c. writes_as (linked_text c.args.query.now _
+    c.rewrite-answer.ensures (length-replicate {A = ℕ} 637 0)) c.put_answer.ensures))

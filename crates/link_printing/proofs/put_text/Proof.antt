@@ -13,16 +13,16 @@ put_text_spec =
     tie.close
     (tie.spec
     -- slice-aggregate-put-linked
-    (λ c. sym (length-take-le 1024 c.before.before.before.before.before.args.input.now (omega arith)))
+    (λ c. sym (length-take-le 1024 c.args.input.now (omega arith)))
     -- put-linked-requires
     (λ c κs. search rules)
     -- same-length
     (λ c. search rules)
     -- returns
-    (λ c. writes_as (text_cut _) c.before.before.put_linked.ensures)
+    (λ c. writes_as (text_cut _) c.put_linked.ensures)
     -- put-linked-requires-2
     (λ c κs. search rules)
     -- same-length-2
     (λ c. search rules)
     -- returns-2
-    (λ c. writes_as (text_whole _ c.before.before.before.before.if1.false) c.before.before.put-linked2.ensures))
+    (λ c. writes_as (text_whole _ c.if-input-gt1024.false) c.put_linked-2.ensures))

@@ -13,18 +13,18 @@ check_links_spec =
     -- enum-known-k
     (λ c. search rules)
     -- returns
-    (λ c i q. front_refused _ i q _ _ (rw three_form (rw c.before.k.given.1 at c.before.before.before.lay-out.ensures)))
+    (λ c i q. front_refused _ i q _ _ (rw three_form (rw c.in-Refused.is at c.lay_out.ensures)))
     -- enum-known-full
     (λ c. search rules)
     -- check-link-bytes-requires
-    (λ c κs. rw c.before.full.given.1 at c.before.before.before.lay-out.ensures)
+    (λ c κs. rw c.in-Accepted.is at c.lay_out.ensures)
     -- check-bytes-requires
-    (λ c κs. (rw c.before.before.full.given.1 at c.before.before.before.before.lay-out.ensures).0)
+    (λ c κs. (rw c.in-Accepted.is at c.lay_out.ensures).0)
     -- first-refusal-requires
     (λ c κs. search rules)
     -- returns-2
     (λ c.
-    let laid = rw c.before.before.before.before.full.given.1 at c.before.before.before.before.before.before.lay-out.ensures in
-    rw c.first-refusal.ensures
-    (first_checked _ _ laid.0 laid.1 laid.2 c.before.before.check-link-bytes.result c.before.check-bytes.result
-    c.before.before.check-link-bytes.ensures (c.before.check-bytes.ensures 0 26 laid.1))))
+    let laid = rw c.in-Accepted.is at c.lay_out.ensures in
+    rw c.first_refusal.ensures
+    (first_checked _ _ laid.0 laid.1 laid.2 c.check_link_bytes-links.result c.check_bytes-bytes.result
+    c.check_link_bytes-links.ensures (c.check_bytes-bytes.ensures 0 26 laid.1))))

@@ -6,23 +6,18 @@ use Rattle.link_query.proofs.Said.{more_entry}
 use Rattle.link_query.proofs.entry_link.Statement.{statement}
 use Rattle.link_query.proofs.entry_link.Tie as tie
 
--- The places that lie behind a place.
-
-abbrev start_of_struct_known : tie.After-struct-known → tie.Start
-start_of_struct_known c = c.before.before.before
-
 pub entry_link_spec : {M : Type 1} → statement M
 unfolding link_in
 entry_link_spec =
     tie.close
     (tie.spec
     -- returns
-    (λ c. rw (eq-eqb _ _ c.if1.true))
+    (λ c. rw (eq-eqb _ _ c.if-links-eq1.true))
     -- mul-byte-at
-    (λ c. omega (arith, rw (more_entry c.before.if1.false) at (start_of_struct_known c).requires.1))
+    (λ c. omega (arith, rw (more_entry c.if-links-eq1.false) at c.requires.1))
     -- sub-byte-at
     (λ c. omega arith)
     -- byte-at-requires
-    (λ c κs. omega (arith, rw (more_entry c.before.if1.false) at (start_of_struct_known c).requires.1))
+    (λ c κs. omega (arith, rw (more_entry c.if-links-eq1.false) at c.requires.1))
     -- returns-2
-    (λ c. rw (ne_eqb _ _ c.before.before.if1.false) c.byte_at.ensures))
+    (λ c. rw (ne_eqb _ _ c.if-links-eq1.false) c.byte_at.ensures))

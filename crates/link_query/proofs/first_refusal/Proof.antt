@@ -10,7 +10,7 @@ first_refusal_spec =
     -- enum-known-first
     (λ c. search rules)
     -- returns
-    (λ c. rw c.before.first.given.1)
+    (λ c. rw c.in-Refused.is)
     -- enum-known-first-2
     (λ c. search rules)
     -- enum-known-second
@@ -18,6 +18,6 @@ first_refusal_spec =
     -- enum-known-second-2
     (λ c. search rules)
     -- returns-2
-    (λ c. rw (c.before.before.before.before.first2.given.1, c.before.second.given.1))
+    (λ c. rw (c.in-Accepted.is, c.in-Refused-second.is))
     -- returns-3
-    (λ c. rw (c.before.before.before.before.before.first2.given.1, c.before.before.second2.given.1)))
+    (λ c. rw (c.in-Accepted.is, c.in-Accepted-second.is)))

@@ -9,8 +9,8 @@ reach_link_spec =
     tie.close
     (tie.spec
     -- returns
-    (λ c. rw (one_literal _ _ _ c.if1.true))
+    (λ c. rw (one_literal _ _ _ c.if-links-eq1.true))
     -- linked-byte-requires
-    (λ c κs. (rw (more_reach c.if1.false) at c.before.before.requires, omega arith))
+    (λ c κs. (rw (more_reach c.if-links-eq1.false) at c.requires, omega arith))
     -- returns-2
-    (λ c. rw (more_literal _ _ _ c.before.if1.false) c.linked-byte.ensures))
+    (λ c. rw (more_literal _ _ _ c.if-links-eq1.false) c.linked_byte.ensures))

@@ -9,10 +9,10 @@ reach_right_spec =
     tie.close
     (tie.spec
     -- right-requires
-    (λ c κs. rw (one_reach c.if1.true) at c.before.before.requires)
+    (λ c κs. rw (one_reach c.if-links-eq1.true) at c.requires)
     -- returns
-    (λ c. rw (one_literal _ _ _ c.before.if1.true) c.right.ensures)
+    (λ c. rw (one_literal _ _ _ c.if-links-eq1.true) c.right.ensures)
     -- linked-byte-requires
-    (λ c κs. (rw (more_reach c.if1.false) at c.before.before.requires, omega arith))
+    (λ c κs. (rw (more_reach c.if-links-eq1.false) at c.requires, omega arith))
     -- returns-2
-    (λ c. rw (more_literal _ _ _ c.before.if1.false) c.linked-byte.ensures))
+    (λ c. rw (more_literal _ _ _ c.if-links-eq1.false) c.linked_byte.ensures))

@@ -13,10 +13,10 @@ reach_sign_spec =
     tie.close
     (tie.spec
     -- sign-requires
-    (λ c κs. rw (one_reach c.if1.true) at c.before.before.requires)
+    (λ c κs. rw (one_reach c.if-links-eq1.true) at c.requires)
     -- returns
-    (λ c. rw (one_literal _ _ _ c.before.if1.true) c.sign.ensures)
+    (λ c. rw (one_literal _ _ _ c.if-links-eq1.true) c.sign.ensures)
     -- linked-byte-requires
-    (λ c κs. (rw (more_reach c.if1.false) at c.before.before.requires, omega arith))
+    (λ c κs. (rw (more_reach c.if-links-eq1.false) at c.requires, omega arith))
     -- returns-2
-    (λ c. rw (more_literal _ _ _ c.before.if1.false) (ap (λ (b : ℕ). eqb b 1) (rw add-zero at c.linked-byte.ensures))))
+    (λ c. rw (more_literal _ _ _ c.if-links-eq1.false) (ap (λ (b : ℕ). eqb b 1) (rw add-zero at c.linked_byte.ensures))))

@@ -8,8 +8,8 @@ link_before_spec =
     tie.close
     (tie.spec
     -- returns
-    (λ c. before_variable _ c.if1.true)
+    (λ c. before_variable _ c.if-byte-eq0.true)
     -- returns-2
-    (λ c. before_nil _ c.if2.true)
+    (λ c. before_nil _ c.if-byte-eq255.true)
     -- returns-3
-    (λ c. before_other _ c.before.if1.false c.if2.false))
+    (λ c. before_other _ c.if-byte-eq0.false c.if-byte-eq255.false))

@@ -12,36 +12,19 @@ use Rattle.link_rewriter.proofs.Loops.{terms_next, terms_end}
 use Rattle.link_rewriter.proofs.put_entries.Statement.{statement}
 use Rattle.link_rewriter.proofs.put_entries.Tie as tie
 
-abbrev invariant-loop : tie.invariant-loop
-invariant-loop terms out₀ to next₀ i₀ out next i =
+abbrev invariant-loop-i : tie.invariant-loop-i
+invariant-loop-i terms out₀ to next₀ i₀ out next i =
     Part out₀ to (flat_map entry_bytes terms) out next (flat_map entry_bytes (drop i terms)) × (next ≡ to + 2 * i) × (i ≤ length terms)
 
-abbrev decreases-loop : tie.decreases-loop
-decreases-loop terms out₀ to next₀ i₀ out next i = length terms - i
-
--- The places that lie behind a place.
-
-abbrev put_byte2_of_slice_known3 : tie.After-slice-known3 invariant-loop decreases-loop → tie.After-put-byte2 invariant-loop decreases-loop
-put_byte2_of_slice_known3 c = c.before.before
-
-abbrev start_of_at_loop : tie.At-loop invariant-loop decreases-loop → tie.Start invariant-loop decreases-loop
-start_of_at_loop c = c.before.before.before
-
-abbrev in_loop_of_link_before : tie.After-link-before invariant-loop decreases-loop → tie.In-loop invariant-loop decreases-loop
-in_loop_of_link_before c = c.before.before.before
-
-abbrev put_byte_of_put_byte_arg2 : tie.After-put-byte-arg2 invariant-loop decreases-loop → tie.After-put-byte invariant-loop decreases-loop
-put_byte_of_put_byte_arg2 c = c.before.before.before
-
-abbrev in_loop_of_slice_known3 : tie.After-slice-known3 invariant-loop decreases-loop → tie.In-loop invariant-loop decreases-loop
-in_loop_of_slice_known3 c = in_loop_of_link_before (put_byte_of_put_byte_arg2 (put_byte2_of_slice_known3 c).before).before
+abbrev decreases-loop-i : tie.decreases-loop-i
+decreases-loop-i terms out₀ to next₀ i₀ out next i = length terms - i
 
 pub put_entries_spec : {M : Type 1} → statement M
 put_entries_spec =
     tie.close
     (tie.spec
-    invariant-loop
-    decreases-loop
+    invariant-loop-i
+    decreases-loop-i
     -- loop-holds
     (λ c. (part_from _ _ refl, omega arith, omega arith))
     -- shared-slice-read-byte
@@ -50,32 +33,25 @@ put_entries_spec =
     (λ c κs. search rules)
     -- put-byte-requires
     (λ c κs.
-    let in_loop = in_loop_of_link_before c in let at_loop = in_loop.before in
-    omega (arith, at_loop.loop.inv.1, (start_of_at_loop at_loop).pre, in_loop.loop-test.taken))
+    omega (arith, c.loop-i.invariant.1, c.requires, c.loop-i-test.true))
     -- put-byte-requires-2
     (λ c κs.
-    let after_put_byte = put_byte_of_put_byte_arg2 c in let in_loop = in_loop_of_link_before after_put_byte.before in
-    let at_loop = in_loop.before in
-    omega (arith, after_put_byte.put_byte.ensures.ends, at_loop.loop.inv.1, (start_of_at_loop at_loop).pre, in_loop.loop-test.taken))
+    omega (arith, c.put_byte-term.ensures.ends, c.loop-i.invariant.1, c.requires, c.loop-i-test.true))
     -- add-i
     (λ c.
-    let in_loop = in_loop_of_slice_known3 c in
-    omega (arith, (start_of_at_loop in_loop.before).pre, in_loop.loop-test.taken))
+    omega (arith, c.requires, c.loop-i-test.true))
     -- loop-less
-    (λ c. omega (arith, (in_loop_of_slice_known3 c).loop-test.true))
+    (λ c. omega (arith, c.loop-i-test.true))
     -- loop-again
-    (λ c.
-    let after_put_byte2 = put_byte2_of_slice_known3 c in let after_put_byte = put_byte_of_put_byte_arg2 after_put_byte2.before in
-    let in_loop = in_loop_of_slice_known3 c in let at_loop = in_loop.before in (
-      part_more (part_more at_loop.loop.inv.0
-          (terms_next (start_of_at_loop at_loop).args.terms.now at_loop.loop.i in_loop.loop-test.taken)
-          (writes_as (ap (λ b. b ∷ []) after_put_byte.before.link-before.ensures) after_put_byte.put_byte.ensures)) refl after_put_byte2.put-byte2.ensures,
-      omega (arith, at_loop.loop.inv.1, after_put_byte.put_byte.ensures.ends, after_put_byte2.put-byte2.ensures.ends),
-      omega (arith, in_loop.loop-test.taken),
+    (λ c. (
+      part_more (part_more c.loop-i.invariant.0
+          (terms_next c.args.terms.now c.loop-i.i c.loop-i-test.true)
+          (writes_as (ap (λ b. b ∷ []) c.link_before.ensures) c.put_byte-term.ensures)) refl c.put_byte-next.ensures,
+      omega (arith, c.loop-i.invariant.1, c.put_byte-term.ensures.ends, c.put_byte-next.ensures.ends),
+      omega (arith, c.loop-i-test.true),
     ))
     -- same-length
-    (λ c. part_length c.before.loop.invariant.0)
+    (λ c. part_length c.loop-i.invariant.0)
     -- returns
     (λ c.
-    let at_loop = c.before in
-    part_all at_loop.loop.invariant.0 (terms_end (start_of_at_loop at_loop).args.terms.now at_loop.loop.i c.loop-test.false at_loop.loop.invariant.2)))
+    part_all c.loop-i.invariant.0 (terms_end c.args.terms.now c.loop-i.i c.loop-i-test.false c.loop-i.invariant.2)))

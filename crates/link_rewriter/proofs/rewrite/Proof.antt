@@ -12,26 +12,6 @@ use Rattle.link_rewriter.proofs.Answers as law
 use Rattle.link_rewriter.proofs.rewrite.Statement.{statement}
 use Rattle.link_rewriter.proofs.rewrite.Tie as tie
 
--- The places that lie behind a place.
-
-abbrev l_of_rewrite_checked_arg : tie.After-rewrite-checked-arg → tie.After-l
-l_of_rewrite_checked_arg c = c.before.before
-
-abbrev rewrite_checked_of_slice_known3 : tie.After-slice-known3 → tie.After-rewrite-checked
-rewrite_checked_of_slice_known3 c = c.before.before
-
-abbrev check_of_known_told : tie.After-known-told → tie.After-check
-check_of_known_told c = c.before.before.before
-
-abbrev clear_of_check : tie.After-check → tie.After-clear
-clear_of_check c = c.before.before.before
-
-abbrev check_of_rewrite_checked_arg : tie.After-rewrite-checked-arg → tie.After-check
-check_of_rewrite_checked_arg c = (l_of_rewrite_checked_arg c).before.before
-
-abbrev start_of_clear : tie.After-clear → tie.Start
-start_of_clear c = c.before.before.before.before
-
 pub rewrite_spec : {M : Type 1} → statement M
 rewrite_spec =
     tie.close
@@ -46,25 +26,20 @@ rewrite_spec =
     (λ c. search rules)
     -- rewrite-checked-requires
     (λ c κs.
-    let after_l = l_of_rewrite_checked_arg c in let after_check = check_of_rewrite_checked_arg c in
-    let after_clear = clear_of_check after_check in let start = start_of_clear after_clear in let query = start.args.query.now in (
-      (subst (λ (x : Checked). CheckedAs x query) after_l.l.given.1 after_check.check.ensures).1,
-      checked-accepts _ query (subst (λ (x : Checked). CheckedAs x query) after_l.l.given.1 after_check.check.ensures),
-      blank_again _ (length start.args.out.now) after_clear.clear.ensures,
+    let query = c.args.query.now in (
+      (subst (λ (x : Checked). CheckedAs x query) c.in-Accepted.is c.check.ensures).1,
+      checked-accepts _ query (subst (λ (x : Checked). CheckedAs x query) c.in-Accepted.is c.check.ensures),
+      blank_again _ (length c.args.out.now) c.clear.ensures,
     ))
     -- same-length
     (λ c.
-    let after_clear = clear_of_check (check_of_known_told c) in
-    blank_long _ (length (start_of_clear after_clear).args.out.now) after_clear.clear.ensures)
+    blank_long _ (length c.args.out.now) c.clear.ensures)
     -- returns
     (λ c.
-    let after_check = check_of_known_told c in let after_clear = clear_of_check after_check in let start = start_of_clear after_clear in
-    law.refuses start.args.query.now (length start.args.out.now)
-    (subst (λ (x : Checked). CheckedAs x start.args.query.now) c.before.k.given.1 after_check.check.ensures) _ after_clear.clear.ensures)
+    law.refuses c.args.query.now (length c.args.out.now)
+    (subst (λ (x : Checked). CheckedAs x c.args.query.now) c.in-Refused.is c.check.ensures) _ c.clear.ensures)
     -- same-length-2
     (λ c. search rules)
     -- returns-2
     (λ c.
-    let after_rewrite_checked = rewrite_checked_of_slice_known3 c in
-    let after_clear = clear_of_check (check_of_rewrite_checked_arg after_rewrite_checked.before) in let start = start_of_clear after_clear in
-    moved (links_rewrite_call start.args.query.now) (blank_long _ (length start.args.out.now) after_clear.clear.ensures) after_rewrite_checked.rewrite-checked.ensures))
+    moved (links_rewrite_call c.args.query.now) (blank_long _ (length c.args.out.now) c.clear.ensures) c.rewrite_checked.ensures))

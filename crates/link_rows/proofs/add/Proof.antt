@@ -8,11 +8,11 @@ use Rattle.link_rows.proofs.add.Tie as tie
 
 -- The places that lie behind a place.
 
-abbrev place_of_only : tie.After-only → tie.After-place
+abbrev place_of_only : tie.After-only-added → tie.After-place
 place_of_only c = c.before.before
 
-abbrev place_of_rows : tie.After-rows → tie.After-place
-place_of_rows c = place_of_only c.before
+abbrev place_of_rows : tie.After-rows-1 → tie.After-place
+place_of_rows c = place_of_only c.before.before
 
 pub add_spec : {M : Type 1} → statement M
 add_spec =
@@ -21,16 +21,16 @@ add_spec =
     -- place-requires
     (λ c κs. search rules)
     -- add-at
-    (λ c. omega (arith, c.before.place.ensures.1))
+    (λ c. omega (arith, c.place.ensures.1))
     -- only-requires
     (λ c κs. search rules)
     -- mul-rows
     (λ c. omega (arith, (place_of_only c).place.ensures.1))
     -- element-copy-out-rows
-    (λ c. omega (arith, (place_of_only c).place.ensures.1))
+    (λ c. omega (arith, (place_of_only c.before).place.ensures.1))
     -- mul-rows-2
     (λ c. omega (arith, (place_of_rows c).place.ensures.1))
     -- element-write-rows
     (λ c. omega (arith, (place_of_rows c).place.ensures.1))
     -- returns
-    (λ c. let p = (place_of_rows c).before.requires in (cube_added _ p.4 _ _ _ _ p.0 p.1 p.2 p.3 _ (place_of_rows c).place.ensures.0 c.before.only.ensures, simp length-set p.4)))
+    (λ c. let p = (place_of_rows c).requires in (cube_added _ p.4 _ _ _ _ p.0 p.1 p.2 p.3 _ (place_of_rows c).place.ensures.0 c.only-added.ensures, simp length-set p.4)))

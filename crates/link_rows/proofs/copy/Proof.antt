@@ -10,21 +10,21 @@ use Rattle.link_rows.proofs.Cube.{laid_more, laid_all}
 use Rattle.link_rows.proofs.copy.Statement.{statement}
 use Rattle.link_rows.proofs.copy.Tie as tie
 
-abbrev invariant-loop : tie.invariant-loop
-invariant-loop rows₀ own a₀ rows a = (a ≤ 17) × (length rows ≡ 17) × Filled (square own) (square rows₀) a (square rows)
+abbrev invariant-loop-a : tie.invariant-loop-a
+invariant-loop-a rows₀ own a₀ rows a = (a ≤ 17) × (length rows ≡ 17) × Filled (square own) (square rows₀) a (square rows)
 
-abbrev decreases-loop : tie.decreases-loop
-decreases-loop rows₀ own a₀ rows a = 17 - a
+abbrev decreases-loop-a : tie.decreases-loop-a
+decreases-loop-a rows₀ own a₀ rows a = 17 - a
 
-whole : (c : tie.After-loop invariant-loop decreases-loop) → c.before.loop.a ≡ 17
+whole : (c : tie.After-loop-a invariant-loop-a decreases-loop-a) → c.loop-a.a ≡ 17
 whole c = omega arith
 
 pub copy_spec : {M : Type 1} → statement M
 copy_spec =
     tie.close
     (tie.spec
-    invariant-loop
-    decreases-loop
+    invariant-loop-a
+    decreases-loop-a
     -- loop-holds
     (λ c. (omega arith, search rules, filled_none _ _))
     -- mul-rows
@@ -40,8 +40,8 @@ copy_spec =
     -- loop-less
     (λ c. omega arith)
     -- loop-again
-    (λ c. let l = c.before.before.loop in (omega arith, simp length-set l.invariant.1, laid_more _ _ l.rows l.invariant.1 l.a (omega arith) l.invariant.2))
+    (λ c. let l = c.loop-a in (omega arith, simp length-set l.invariant.1, laid_more _ _ l.rows l.invariant.1 l.a (omega arith) l.invariant.2))
     -- same-length
     (λ c. omega arith)
     -- returns
-    (λ c. (laid_all _ _ _ (rw (whole c) at c.before.loop.invariant.2), c.before.loop.invariant.1)))
+    (λ c. (laid_all _ _ _ (rw (whole c) at c.loop-a.invariant.2), c.loop-a.invariant.1)))

@@ -14,44 +14,38 @@ use Rattle.link_steps.proofs.Around.{iterate-none, iterate_turn, iterate_stuck, 
 use Rattle.link_steps.proofs.follow.Statement.{statement}
 use Rattle.link_steps.proofs.follow.Tie as tie
 
-abbrev invariant-loop : tie.invariant-loop
-invariant-loop link n until left term₀ steps₀ passed₀ term steps passed =
+abbrev invariant-loop-steps : tie.invariant-loop-steps
+invariant-loop-steps link n until left term₀ steps₀ passed₀ term steps passed =
     (term.0 ≤ 16) × (steps ≤ left) × (term.0 ≡ iterate (next n (links_in link)) steps term₀.0)
     × (steps_to n (links_in link) until.0 left term₀.0 ≡ steps + steps_to n (links_in link) until.0 (left - steps) term.0)
     × ((y : ℕ) → bit passed y ≡ ltb (steps_to n (links_in link) y steps term₀.0) steps)
 
-abbrev decreases-loop : tie.decreases-loop
-decreases-loop link n until left term₀ steps₀ passed₀ term steps passed = left - steps
-
--- The places that lie behind a place.
-
-abbrev at_loop_of_else1 : tie.Else1 invariant-loop decreases-loop → tie.At-loop invariant-loop decreases-loop
-at_loop_of_else1 c = c.before.before.before.before
+abbrev decreases-loop-steps : tie.decreases-loop-steps
+decreases-loop-steps link n until left term₀ steps₀ passed₀ term steps passed = left - steps
 
 pub follow_spec : {M : Type 1} → statement M
 follow_spec =
     tie.close
     (tie.spec
-    invariant-loop
-    decreases-loop
+    invariant-loop-steps
+    decreases-loop-steps
     -- loop-holds
     (λ c. (c.requires.1, omega arith, sym (iterate-none _ _ 0 _ refl), follow_start _ _ _ _ _, λ y. bit-none y ∙ passed_none _ _ y _))
     -- returns
     (λ c.
-    let i = c.before.before.before.before.loop.invariant in
-    (follow_there _ _ _ _ _ _ _ i.3 c.if1.true, i.2, i.4))
+    let i = c.loop-steps.invariant in
+    (follow_there _ _ _ _ _ _ _ i.3 c.if-term-until.true, i.2, i.4))
     -- next-requires
     (λ c κs. omega arith)
     -- only-requires
     (λ c κs. omega arith)
     -- returns-2
     (λ c.
-    let after_only = c.before.before.before in let after_next = after_only.before in let else1 = after_next.before in
-    let i = (at_loop_of_else1 else1).loop.invariant in
-    let stuck = sym after_next.next.ensures ∙ c.if2.true in (
-      follow_stuck _ _ _ _ _ _ _ i.3 (omega arith) else1.if1.false stuck,
+    let i = c.loop-steps.invariant in
+    let stuck = sym c.next-d.ensures ∙ c.if-d-term.true in (
+      follow_stuck _ _ _ _ _ _ _ i.3 (omega arith) c.if-term-until.false stuck,
       iterate_stuck _ _ _ _ _ _ (omega arith) i.2 stuck,
-      passed_ever _ _ _ _ _ _ _ i.2 i.4 after_only.only.ensures _ (omega arith) stuck,
+      passed_ever _ _ _ _ _ _ _ i.2 i.4 c.only-passed.ensures _ (omega arith) stuck,
     ))
     -- add-steps
     (λ c. omega arith)
@@ -59,18 +53,16 @@ follow_spec =
     (λ c. omega arith)
     -- loop-again
     (λ c.
-    let after_only = c.before.before.before in let after_next = after_only.before in let else1 = after_next.before in
-    let at_loop = at_loop_of_else1 else1 in let start = at_loop.before in
-    let i = at_loop.loop.inv in
-    let e = after_next.next.ensures in
-    let l = next_le start.args.n (links_in start.args.link.now) at_loop.loop.term.0 in (
+    let i = c.loop-steps.invariant in
+    let e = c.next-d.ensures in
+    let l = next_le c.args.n (links_in c.args.link.now) c.loop-steps.term.0 in (
       omega arith,
       omega arith,
       iterate_turn _ _ _ _ _ _ i.2 e,
-      follow_turn _ _ _ _ _ _ _ _ i.3 (omega arith) else1.if1.false e,
-      passed_then _ _ _ _ _ _ _ i.2 i.4 after_only.only.ensures,
+      follow_turn _ _ _ _ _ _ _ _ i.3 (omega arith) c.if-term-until.false e,
+      passed_then _ _ _ _ _ _ _ i.2 i.4 c.only-passed.ensures,
     ))
     -- returns-3
     (λ c.
-    let i = c.before.loop.invariant in
+    let i = c.loop-steps.invariant in
     (follow_end _ _ _ _ _ _ _ i.3 (omega arith), i.2, i.4)))

@@ -7,24 +7,17 @@ use Rattle.link_steps.proofs.Around.{next-some, next-none}
 use Rattle.link_steps.proofs.next.Statement.{statement}
 use Rattle.link_steps.proofs.next.Tie as tie
 
--- The places that lie behind a place.
-
-abbrev successor_of_enum_told : tie.After-enum-told → tie.After-successor
-successor_of_enum_told c = c.before.before
-
-returns : tie.Need-returns
+returns : tie.Need-returns-in-At
 unfolding links_in
 -- returns
 returns c =
-    let after_successor = c.before.before.before in
-    sym (next-some _ (links_in after_successor.before.args.link.now) _ _ (sym after_successor.successor.ensures ∙ ap found_of c.before.t.given.1))
+    sym (next-some _ (links_in c.args.link.now) _ _ (sym c.successor.ensures ∙ ap found_of c.in-At.is))
 
-returns_2 : tie.Need-returns-2
+returns_2 : tie.Need-returns-in-Nothing
 unfolding links_in
 -- returns-2
 returns_2 c =
-    let after_successor = successor_of_enum_told c in
-    sym (next-none _ (links_in after_successor.before.args.link.now) _ (sym after_successor.successor.ensures ∙ ap found_of c.enum_told.given.1))
+    sym (next-none _ (links_in c.args.link.now) _ (sym c.successor.ensures ∙ ap found_of c.in-Nothing.is))
 
 pub next_spec : {M : Type 1} → statement M
 next_spec =

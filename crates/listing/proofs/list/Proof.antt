@@ -21,9 +21,8 @@ list_spec =
     (tie.spec
     -- list-in-requires
     (λ c κs.
-    let start = c.before.before.before.before.before.before.before.before.before in
-    let p = start.requires in (p.0, p.1, p.2, p.3, whole start.lifetimes (lts.dens (list_in_reads.Asked, list_in_reads.Learnt) reads.Pre reads.Post start.lifetimes start.args) start.well-formed))
+    let p = c.requires in (p.0, p.1, p.2, p.3, whole c.lifetimes (lts.dens (list_in_reads.Asked, list_in_reads.Learnt) reads.Pre reads.Post c.lifetimes c.args) c.well_formed))
     -- same_length
-    (λ c. c.before.before.list-in.ensures.same_length)
+    (λ c. c.list_in.ensures.same_length)
     -- returns
-    (λ c. c.before.before.list-in.ensures))
+    (λ c. c.list_in.ensures))

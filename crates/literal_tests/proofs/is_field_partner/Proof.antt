@@ -16,11 +16,11 @@ is_field_partner_spec =
     -- sign-requires
     (λ c κs. search rules)
     -- returns
-    (λ c. rw (sym c.before.sign.ensures ∙ not-true _ c.if1.true))
+    (λ c. rw (sym c.sign.ensures ∙ c.if-not-sign.true))
     -- field-requires
     (λ c κs. search rules)
     -- returns-2
-    (λ c. rw (sym c.before.before.before.sign.ensures ∙ not-false _ c.before.before.if1.false, ← c.before.field.ensures, ne_eqb _ _ c.if2.true))
+    (λ c. rw (sym c.sign.ensures ∙ c.if-not-sign.false, ← c.field-other.ensures, ne_eqb _ _ c.if-field-other.true))
     -- right-requires
     (λ c κs. search rules)
     -- read-rep-requires
@@ -28,9 +28,9 @@ is_field_partner_spec =
     -- returns-3
     (λ c.
     rw (
-      sym c.before.before.before.before.before.before.before.sign.ensures
-          ∙ not-false _ c.before.before.before.before.before.before.if1.false,
-      ← c.before.before.before.before.before.field.ensures,
-      eq-eqb _ _ c.before.before.before.before.if2.false,
+      sym c.sign.ensures
+          ∙ c.if-not-sign.false,
+      ← c.field-other.ensures,
+      eq-eqb _ _ c.if-field-other.false,
     )
-    (ap (eqb _) (c.before.before.read-rep.ensures ∙ ap (rep_of _) c.before.before.before.right.ensures))))
+    (ap (eqb _) (c.read_rep-same.ensures ∙ ap (rep_of _) c.right.ensures))))

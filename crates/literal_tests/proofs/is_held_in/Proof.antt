@@ -21,7 +21,7 @@ is_held_in_spec =
     -- reach-sign-requires
     (λ c κs. search rules)
     -- returns
-    (λ c. rw (sym c.before.reach-sign.ensures ∙ c.if1.true))
+    (λ c. rw (sym c.reach_sign.ensures ∙ c.if-reach_sign.true))
     -- reach-link-requires
     (λ c κs. search rules)
     -- reach-left-requires
@@ -35,8 +35,8 @@ is_held_in_spec =
     -- reaches-by-requires
     (λ c κs. search rules)
     -- returns-2
-    (λ c. rw (sym c.before.before.before.before.before.before.before.reach-sign.ensures
-    ∙ c.before.before.before.before.before.before.if1.false)
-    (c.reaches_by_lem.ensures ∙ held _ _ c.before.before.before.before.before.reach-link.ensures
-    (c.before.before.before.read-rep.ensures ∙ ap (rep_of _) c.before.before.before.before.reach-left.ensures)
-    (c.before.read-rep2.ensures ∙ ap (rep_of _) c.before.before.reach-right.ensures))))
+    (λ c. rw (sym c.reach_sign.ensures
+    ∙ c.if-reach_sign.false)
+    (c.reaches_by.ensures ∙ held _ _ c.reach_link-k.ensures
+    (c.read_rep-a.ensures ∙ ap (rep_of _) c.reach_left.ensures)
+    (c.read_rep-b.ensures ∙ ap (rep_of _) c.reach_right.ensures))))

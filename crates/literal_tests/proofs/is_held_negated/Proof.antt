@@ -20,6 +20,6 @@ is_held_negated_spec =
     (λ c κs. search rules)
     -- returns
     (λ c.
-    let a = c.before.before.before.before.before.args in
+    let a = c.args in
     let l = reach_in a.links a.query.now a.at a.i in
-    c.is-held-in.ensures ∙ ap (λ (reach : ℕ → ℕ → ℕ → Bool). not l.plain and rows_held (rep_of a.t5.rep) reach l) (sym (path_reach a.t5))))
+    c.is_held_in.ensures ∙ ap (λ (reach : ℕ → ℕ → ℕ → Bool). not l.plain and rows_held (rep_of a.s.rep) reach l) (sym (path_reach a.s))))

@@ -15,7 +15,7 @@ is_unequal_to_itself_spec =
     -- sign-requires
     (λ c κs. search rules)
     -- returns
-    (λ c. rw (sym c.before.sign.ensures ∙ c.if1.true))
+    (λ c. rw (sym c.sign.ensures ∙ c.if-sign.true))
     -- left-requires
     (λ c κs. search rules)
     -- read-rep-requires
@@ -26,6 +26,6 @@ is_unequal_to_itself_spec =
     (λ c κs. search rules)
     -- returns-2
     (λ c.
-    rw (sym c.before.before.before.before.before.before.before.sign.ensures ∙ c.before.before.before.before.before.before.if1.false)
-    (ap₂ eqb (c.before.before.before.before.read-rep.ensures ∙ ap (rep_of _) c.before.before.before.before.before.left.ensures)
-    (c.before.before.read-rep2.ensures ∙ ap (rep_of _) c.before.before.before.right.ensures))))
+    rw (sym c.sign.ensures ∙ c.if-sign.false)
+    (ap₂ eqb (c.read_rep-a.ensures ∙ ap (rep_of _) c.left.ensures)
+    (c.read_rep-b.ensures ∙ ap (rep_of _) c.right.ensures))))

@@ -18,13 +18,13 @@ reaches_by_spec =
     tie.close
     (tie.spec
     -- returns
-    (λ c. let a = c.before.args in rw (cube-none a.reach.now a.k a.a.0 a.b.0 (omega (arith, c.if1.true))) (sym (and-false (leb a.k (cond a.single 1 3)))))
+    (λ c. let a = c.args in rw (cube-none a.reach.now a.k a.a.0 a.b.0 (omega (arith, c.if-k-eq0.true))) (sym (and-false (leb a.k (cond a.single 1 3)))))
     -- links-requires
     (λ c κs. search rules)
     -- returns-2
-    (λ c. let a = c.before.before.before.args in rw (lt-leb a.k (cond a.single 1 3) (omega (arith, c.if2.true, c.before.links.ensures.0))))
+    (λ c. let a = c.args in rw (lt-leb a.k (cond a.single 1 3) (omega (arith, c.if-links-k.true, c.links.ensures.0))))
     -- is-held-requires
-    (λ c κs. (omega (arith, c.before.before.if1.false), omega (arith, c.if2.false, c.before.links.ensures)))
+    (λ c κs. (omega (arith, c.if-k-eq0.false), omega (arith, c.if-links-k.false, c.links.ensures)))
     -- returns-3
-    (λ c. let a = c.before.before.before.before.args in
-    rw (le-leb a.k (cond a.single 1 3) (omega (arith, c.before.if2.false, c.before.before.links.ensures.0))) c.is_held.ensures))
+    (λ c. let a = c.args in
+    rw (le-leb a.k (cond a.single 1 3) (omega (arith, c.if-links-k.false, c.links.ensures.0))) c.is_held.ensures))

@@ -12,8 +12,8 @@ before_closing_spec =
     -- explains-requires
     (λ c κs. search rules)
     -- returns
-    (λ c e. c.before.explains.ensures c.if1.true)
+    (λ c e. c.explains.ensures c.if-explains.true)
     -- explains-requires-2
     (λ c κs. search rules)
     -- returns-2
-    (λ c e. c.explains2.ensures e))
+    (λ c e. c.explains-found.ensures e))

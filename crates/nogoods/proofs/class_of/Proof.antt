@@ -5,18 +5,18 @@ use borrow.Author.Rules.{rules}
 use Rattle.nogoods.proofs.class_of.Statement.{statement}
 use Rattle.nogoods.proofs.class_of.Tie as tie
 
-abbrev invariant-loop : tie.invariant-loop
-invariant-loop t names row₀ a₀ row a = a ≤ 17
+abbrev invariant-loop-a : tie.invariant-loop-a
+invariant-loop-a t names row₀ a₀ row a = a ≤ 17
 
-abbrev decreases-loop : tie.decreases-loop
-decreases-loop t names row₀ a₀ row a = 17 - a
+abbrev decreases-loop-a : tie.decreases-loop-a
+decreases-loop-a t names row₀ a₀ row a = 17 - a
 
 pub class_of_spec : {M : Type 1} → statement M
 class_of_spec =
     tie.close
     (tie.spec
-    invariant-loop
-    decreases-loop
+    invariant-loop-a
+    decreases-loop-a
     -- loop-holds
     (λ c. omega arith)
     -- array-read-wide

@@ -5,18 +5,18 @@ use borrow.Author.Rules.{rules}
 use Rattle.nogoods.proofs.come_from.Statement.{statement}
 use Rattle.nogoods.proofs.come_from.Tie as tie
 
-abbrev invariant-loop : tie.invariant-loop
-invariant-loop new a more₀ b₀ more b = b ≤ 17
+abbrev invariant-loop-b : tie.invariant-loop-b
+invariant-loop-b new a more₀ b₀ more b = b ≤ 17
 
-abbrev decreases-loop : tie.decreases-loop
-decreases-loop new a more₀ b₀ more b = 17 - b
+abbrev decreases-loop-b : tie.decreases-loop-b
+decreases-loop-b new a more₀ b₀ more b = 17 - b
 
 pub come_from_spec : {M : Type 1} → statement M
 come_from_spec =
     tie.close
     (tie.spec
-    invariant-loop
-    decreases-loop
+    invariant-loop-b
+    decreases-loop-b
     -- loop-holds
     (λ c. omega arith)
     -- has-requires

@@ -5,18 +5,18 @@ use borrow.Author.Rules.{rules}
 use Rattle.nogoods.proofs.common.Statement.{statement}
 use Rattle.nogoods.proofs.common.Tie as tie
 
-abbrev invariant-loop : tie.invariant-loop
-invariant-loop others both₀ at₀ both at = at ≤ 51
+abbrev invariant-loop-at : tie.invariant-loop-at
+invariant-loop-at others both₀ at₀ both at = at ≤ 51
 
-abbrev decreases-loop : tie.decreases-loop
-decreases-loop others both₀ at₀ both at = 51 - at
+abbrev decreases-loop-at : tie.decreases-loop-at
+decreases-loop-at others both₀ at₀ both at = 51 - at
 
 pub common_spec : {M : Type 1} → statement M
 common_spec =
     tie.close
     (tie.spec
-    invariant-loop
-    decreases-loop
+    invariant-loop-at
+    decreases-loop-at
     -- loop-holds
     (λ c. omega arith)
     -- mul-both

@@ -16,7 +16,7 @@ excludes_spec =
     -- returns
     (λ c e. absurd (false≢true e))
     -- branch-requires
-    (λ c κs. c.before.before.requires)
+    (λ c κs. c.requires)
     -- element-copy-out-if2
     (λ c. search rules)
     -- returns-2
@@ -25,5 +25,4 @@ excludes_spec =
     (λ c κs. search rules)
     -- returns-3
     (λ c e.
-    let before = c.before.before.before.before in
-    (before.before.before.covers.ensures (not-false _ before.before.if1.false), excludes_made _ _ _ _ _ _ refl before.branch.ensures c.before.if2.false (c.covers2.ensures e))))
+    (c.covers.ensures c.if-not-covers.false, excludes_made _ _ _ _ _ _ refl c.branch-joined.ensures c.if-path-ne0.false (c.covers-2.ensures e))))

@@ -12,19 +12,19 @@ excluding_spec =
     tie.close
     (tie.spec
     -- alternative-requires
-    (λ c κs. let a = c.before.before.before.before in let p = a.requires in (p.0, p.1.0, link_few a.args.path a.args.m.link.0 p.1, p.2, p.3, p.4))
+    (λ c κs. let p = c.requires in (p.0, p.1.0, link_few c.args.path c.args.m.link.0 p.1, p.2, p.3, p.4))
     -- pulled-back-requires
     (λ c κs. search rules)
     -- with-round-requires
     (λ c κs. search rules)
     -- excludes-requires
-    (λ c κs. let p = c.before.before.before.before.before.before.before.requires in (p.0, links_kept _ _ _ c.with-round.ensures.0 p.1, p.2, p.3, p.4))
+    (λ c κs. let p = c.requires in (p.0, links_kept _ _ _ c.with_round-grown.ensures.0 p.1, p.2, p.3, p.4))
     -- returns
     (λ c e.
-    let w = c.before.before.with-round.ensures in
-    let p = c.before.before.before.before.before.before.before.before.before.requires in
-    excludes_there _ _ _ _ _ (links_kept _ _ _ w.0 p.1) p.1 _ w.1 _ _ _ _ (c.before.excludes.ensures c.if1.true))
+    let w = c.with_round-grown.ensures in
+    let p = c.requires in
+    excludes_there _ _ _ _ _ (links_kept _ _ _ w.0 p.1) p.1 _ w.1 _ _ _ _ (c.excludes.ensures c.if-excludes.true))
     -- excludes-requires-2
-    (λ c κs. c.before.before.before.before.before.before.before.before.before.requires)
+    (λ c κs. c.requires)
     -- returns-2
-    (λ c e. c.excludes2.ensures e))
+    (λ c e. c.excludes-found.ensures e))

@@ -19,4 +19,4 @@ explains_spec =
     -- covers-requires-2
     (λ c κs. search rules)
     -- returns-2
-    (λ c e. (c.covers2.ensures e, nogood_explained _ _ _ _ c.before.before.before.close.ensures.0 (c.before.before.covers.ensures (not-false _ c.before.if1.false)))))
+    (λ c e. (c.covers-2.ensures e, nogood_explained _ _ _ _ c.close-closed.ensures.0 (c.covers.ensures c.if-not-covers.false))))

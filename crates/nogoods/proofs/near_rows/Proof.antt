@@ -5,18 +5,18 @@ use borrow.Author.Rules.{rules}
 use Rattle.nogoods.proofs.near_rows.Statement.{statement}
 use Rattle.nogoods.proofs.near_rows.Tie as tie
 
-abbrev invariant-loop : tie.invariant-loop
-invariant-loop k path near₀ a₀ near a = a ≤ 17
+abbrev invariant-loop-a : tie.invariant-loop-a
+invariant-loop-a k path near₀ a₀ near a = a ≤ 17
 
-abbrev decreases-loop : tie.decreases-loop
-decreases-loop k path near₀ a₀ near a = 17 - a
+abbrev decreases-loop-a : tie.decreases-loop-a
+decreases-loop-a k path near₀ a₀ near a = 17 - a
 
 pub near_rows_spec : {M : Type 1} → statement M
 near_rows_spec =
     tie.close
     (tie.spec
-    invariant-loop
-    decreases-loop
+    invariant-loop-a
+    decreases-loop-a
     -- loop-holds
     (λ c. omega arith)
     -- row-place-requires

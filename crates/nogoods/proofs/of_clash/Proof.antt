@@ -10,12 +10,12 @@ of_clash_spec =
     tie.close
     (tie.spec
     -- clash-facts-requires
-    (λ c κs. c.before.requires.0)
+    (λ c κs. c.requires.0)
     -- is-clash-requires
-    (λ c κs. c.before.before.requires.0)
+    (λ c κs. c.requires.0)
     -- returns
-    (λ c e. nogood_clash _ c.before.before.before.before.requires.1 _ _ (sym c.before.is-clash.ensures ∙ c.if1.true))
+    (λ c e. nogood_clash _ c.requires.1 _ _ (sym c.is_clash.ensures ∙ c.if-is_clash.true))
     -- is-clash-requires-2
-    (λ c κs. c.before.before.before.before.requires.0)
+    (λ c κs. c.requires.0)
     -- returns-2
-    (λ c e. nogood_clash _ c.before.before.before.before.before.requires.1 _ _ (sym c.is-clash2.ensures ∙ e)))
+    (λ c e. nogood_clash _ c.requires.1 _ _ (sym c.is_clash-found.ensures ∙ e)))

@@ -13,13 +13,13 @@ of_rule_spec =
     -- with-round-requires
     (λ c κs. search rules)
     -- refutes-requires
-    (λ c κs. let p = c.before.before.requires in (p.0, links_kept _ _ _ c.with-round.ensures.0 p.1))
+    (λ c κs. let p = c.requires in (p.0, links_kept _ _ _ c.with_round-whole.ensures.0 p.1))
     -- returns
     (λ c e.
-    let w = c.before.before.with-round.ensures in
-    let p = c.before.before.before.before.requires in
-    nogood_there _ _ _ _ _ (links_kept _ _ _ w.0 p.1) p.1 _ w.1 _ _ _ (c.before.refutes.ensures c.if1.true))
+    let w = c.with_round-whole.ensures in
+    let p = c.requires in
+    nogood_there _ _ _ _ _ (links_kept _ _ _ w.0 p.1) p.1 _ w.1 _ _ _ (c.refutes.ensures c.if-refutes.true))
     -- refutes-requires-2
-    (λ c κs. c.before.before.before.before.requires)
+    (λ c κs. c.requires)
     -- returns-2
-    (λ c e. c.refutes2.ensures e))
+    (λ c e. c.refutes-found.ensures e))

@@ -20,15 +20,15 @@ reach_facts_spec =
     -- sub-reach-left
     (λ c. search rules)
     -- reach-left-requires
-    (λ c κs. let d = c.before.if1.false in let l = c.if2.false in literal-fits _ _ _ _ _ (omega arith) c.before.before.before.requires.reach_fit)
+    (λ c κs. let d = c.if-i-eq0.false in let l = c.if-count-i.false in literal-fits _ _ _ _ _ (omega arith) c.requires.reach_fit)
     -- sub-reach-right
     (λ c. search rules)
     -- reach-right-requires
-    (λ c κs. let d = c.before.before.if1.false in let l = c.before.if2.false in literal-fits _ _ _ _ _ (omega arith) c.before.before.before.before.requires.reach_fit)
+    (λ c κs. let d = c.if-i-eq0.false in let l = c.if-count-i.false in literal-fits _ _ _ _ _ (omega arith) c.requires.reach_fit)
     -- sub-reach-link
     (λ c. search rules)
     -- reach-link-requires
-    (λ c κs. let d = c.before.before.before.if1.false in let l = c.before.before.if2.false in literal-fits _ _ _ _ _ (omega arith) c.before.before.before.before.before.requires.reach_fit)
+    (λ c κs. let d = c.if-i-eq0.false in let l = c.if-count-i.false in literal-fits _ _ _ _ _ (omega arith) c.requires.reach_fit)
     -- read-rep-requires
     (λ c κs. search rules)
     -- read-rep-requires-2

@@ -16,6 +16,6 @@ refutes_spec =
     -- returns
     (λ c e. absurd (false≢true e))
     -- applies-requires
-    (λ c κs. c.before.before.requires)
+    (λ c κs. c.requires)
     -- returns-2
-    (λ c e. nogood_ruled _ _ _ _ _ _ _ _ (c.before.before.covers.ensures (not-false _ c.before.if1.false)) (sym c.applies.ensures ∙ e)))
+    (λ c e. nogood_ruled _ _ _ _ _ _ _ _ (c.covers.ensures c.if-not-covers.false) (sym c.applies.ensures ∙ e)))

@@ -5,18 +5,18 @@ use borrow.Author.Rules.{rules}
 use Rattle.nogoods.proofs.sources_of.Statement.{statement}
 use Rattle.nogoods.proofs.sources_of.Tie as tie
 
-abbrev invariant-loop : tie.invariant-loop
-invariant-loop names k path nogood more₀ a₀ more a = a ≤ 17
+abbrev invariant-loop-a : tie.invariant-loop-a
+invariant-loop-a names k path nogood more₀ a₀ more a = a ≤ 17
 
-abbrev decreases-loop : tie.decreases-loop
-decreases-loop names k path nogood more₀ a₀ more a = 17 - a
+abbrev decreases-loop-a : tie.decreases-loop-a
+decreases-loop-a names k path nogood more₀ a₀ more a = 17 - a
 
 pub sources_of_spec : {M : Type 1} → statement M
 sources_of_spec =
     tie.close
     (tie.spec
-    invariant-loop
-    decreases-loop
+    invariant-loop-a
+    decreases-loop-a
     -- loop-holds
     (λ c. omega arith)
     -- row-place-requires

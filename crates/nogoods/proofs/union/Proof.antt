@@ -5,18 +5,18 @@ use borrow.Author.Rules.{rules}
 use Rattle.nogoods.proofs.union.Statement.{statement}
 use Rattle.nogoods.proofs.union.Tie as tie
 
-abbrev invariant-loop : tie.invariant-loop
-invariant-loop others all₀ at₀ all at = at ≤ 51
+abbrev invariant-loop-at : tie.invariant-loop-at
+invariant-loop-at others all₀ at₀ all at = at ≤ 51
 
-abbrev decreases-loop : tie.decreases-loop
-decreases-loop others all₀ at₀ all at = 51 - at
+abbrev decreases-loop-at : tie.decreases-loop-at
+decreases-loop-at others all₀ at₀ all at = 51 - at
 
 pub union_spec : {M : Type 1} → statement M
 union_spec =
     tie.close
     (tie.spec
-    invariant-loop
-    decreases-loop
+    invariant-loop-at
+    decreases-loop-at
     -- loop-holds
     (λ c. omega arith)
     -- mul-all

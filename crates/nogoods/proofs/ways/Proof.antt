@@ -5,18 +5,18 @@ use borrow.Author.Rules.{rules}
 use Rattle.nogoods.proofs.ways.Statement.{statement}
 use Rattle.nogoods.proofs.ways.Tie as tie
 
-abbrev invariant-loop : tie.invariant-loop
-invariant-loop a near from₀ ahead₀ seen₀ turn₀ from ahead seen turn = turn ≤ 17
+abbrev invariant-loop-turn : tie.invariant-loop-turn
+invariant-loop-turn a near from₀ ahead₀ seen₀ turn₀ from ahead seen turn = turn ≤ 17
 
-abbrev decreases-loop : tie.decreases-loop
-decreases-loop a near from₀ ahead₀ seen₀ turn₀ from ahead seen turn = 17 - turn
+abbrev decreases-loop-turn : tie.decreases-loop-turn
+decreases-loop-turn a near from₀ ahead₀ seen₀ turn₀ from ahead seen turn = 17 - turn
 
 pub ways_spec : {M : Type 1} → statement M
 ways_spec =
     tie.close
     (tie.spec
-    invariant-loop
-    decreases-loop
+    invariant-loop-turn
+    decreases-loop-turn
     -- returns
     (λ c. search rules)
     -- only-requires

@@ -5,18 +5,18 @@ use borrow.Author.Rules.{rules}
 use Rattle.nogoods.proofs.with_names.Statement.{statement}
 use Rattle.nogoods.proofs.with_names.Tie as tie
 
-abbrev invariant-loop : tie.invariant-loop
-invariant-loop names replaced more₀ at₀ more at = at ≤ 17
+abbrev invariant-loop-at : tie.invariant-loop-at
+invariant-loop-at names replaced more₀ at₀ more at = at ≤ 17
 
-abbrev decreases-loop : tie.decreases-loop
-decreases-loop names replaced more₀ at₀ more at = 17 - at
+abbrev decreases-loop-at : tie.decreases-loop-at
+decreases-loop-at names replaced more₀ at₀ more at = 17 - at
 
 pub with_names_spec : {M : Type 1} → statement M
 with_names_spec =
     tie.close
     (tie.spec
-    invariant-loop
-    decreases-loop
+    invariant-loop-at
+    decreases-loop-at
     -- loop-holds
     (λ c. omega arith)
     -- array-read-wide

@@ -12,6 +12,6 @@ with_round_spec =
     -- is-not-cycle-requires
     (λ c κs. search rules)
     -- returns
-    (λ c. (refl, λ e. absurd (true≢false (sym c.before.if1.true ∙ c.before.before.is-not-cycle.ensures ∙ e))))
+    (λ c. (refl, λ e. absurd (true≢false (sym c.if-is_not_cycle.true ∙ c.is_not_cycle.ensures ∙ e))))
     -- returns-2
     (λ c. (refl, λ e. refl)))

@@ -5,18 +5,18 @@ use borrow.Author.Rules.{rules}
 use Rattle.nogoods.proofs.with_source.Statement.{statement}
 use Rattle.nogoods.proofs.with_source.Tie as tie
 
-abbrev invariant-loop : tie.invariant-loop
-invariant-loop reach k a b path left right c₀ c = c ≤ 17
+abbrev invariant-loop-c : tie.invariant-loop-c
+invariant-loop-c reach k a b path left right c₀ c = c ≤ 17
 
-abbrev decreases-loop : tie.decreases-loop
-decreases-loop reach k a b path left right c₀ c = 17 - c
+abbrev decreases-loop-c : tie.decreases-loop-c
+decreases-loop-c reach k a b path left right c₀ c = 17 - c
 
 pub with_source_spec : {M : Type 1} → statement M
 with_source_spec =
     tie.close
     (tie.spec
-    invariant-loop
-    decreases-loop
+    invariant-loop-c
+    decreases-loop-c
     -- class-of-requires
     (λ c κs. search rules)
     -- class-of-requires-2

@@ -5,18 +5,18 @@ use borrow.Author.Rules.{rules}
 use Rattle.nogoods.proofs.with_sources.Statement.{statement}
 use Rattle.nogoods.proofs.with_sources.Tie as tie
 
-abbrev invariant-loop : tie.invariant-loop
-invariant-loop path names k a row more₀ b₀ more b = b ≤ 17
+abbrev invariant-loop-b : tie.invariant-loop-b
+invariant-loop-b path names k a row more₀ b₀ more b = b ≤ 17
 
-abbrev decreases-loop : tie.decreases-loop
-decreases-loop path names k a row more₀ b₀ more b = 17 - b
+abbrev decreases-loop-b : tie.decreases-loop-b
+decreases-loop-b path names k a row more₀ b₀ more b = 17 - b
 
 pub with_sources_spec : {M : Type 1} → statement M
 with_sources_spec =
     tie.close
     (tie.spec
-    invariant-loop
-    decreases-loop
+    invariant-loop-b
+    decreases-loop-b
     -- loop-holds
     (λ c. omega arith)
     -- has-requires

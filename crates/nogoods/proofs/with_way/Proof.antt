@@ -5,18 +5,18 @@ use borrow.Author.Rules.{rules}
 use Rattle.nogoods.proofs.with_way.Statement.{statement}
 use Rattle.nogoods.proofs.with_way.Tie as tie
 
-abbrev invariant-loop : tie.invariant-loop
-invariant-loop path k a b from more₀ to₀ turn₀ more to turn = turn ≤ 17
+abbrev invariant-loop-turn : tie.invariant-loop-turn
+invariant-loop-turn path k a b from more₀ to₀ turn₀ more to turn = turn ≤ 17
 
-abbrev decreases-loop : tie.decreases-loop
-decreases-loop path k a b from more₀ to₀ turn₀ more to turn = 17 - turn
+abbrev decreases-loop-turn : tie.decreases-loop-turn
+decreases-loop-turn path k a b from more₀ to₀ turn₀ more to turn = 17 - turn
 
 pub with_way_spec : {M : Type 1} → statement M
 with_way_spec =
     tie.close
     (tie.spec
-    invariant-loop
-    decreases-loop
+    invariant-loop-turn
+    decreases-loop-turn
     -- loop-holds
     (λ c. omega arith)
     -- returns

@@ -5,18 +5,18 @@ use borrow.Author.Rules.{rules}
 use Rattle.nogoods.proofs.with_ways.Statement.{statement}
 use Rattle.nogoods.proofs.with_ways.Tie as tie
 
-abbrev invariant-loop : tie.invariant-loop
-invariant-loop path k a row from more₀ b₀ more b = b ≤ 17
+abbrev invariant-loop-b : tie.invariant-loop-b
+invariant-loop-b path k a row from more₀ b₀ more b = b ≤ 17
 
-abbrev decreases-loop : tie.decreases-loop
-decreases-loop path k a row from more₀ b₀ more b = 17 - b
+abbrev decreases-loop-b : tie.decreases-loop-b
+decreases-loop-b path k a row from more₀ b₀ more b = 17 - b
 
 pub with_ways_spec : {M : Type 1} → statement M
 with_ways_spec =
     tie.close
     (tie.spec
-    invariant-loop
-    decreases-loop
+    invariant-loop-b
+    decreases-loop-b
     -- near-rows-requires
     (λ c κs. search rules)
     -- ways-requires

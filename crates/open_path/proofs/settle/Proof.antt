@@ -7,14 +7,6 @@ use Rattle.open_path.proofs.Settled.{settled_plain, held_reach, held_most, settl
 use Rattle.open_path.proofs.settle.Statement.{statement}
 use Rattle.open_path.proofs.settle.Tie as tie
 
--- The places that lie behind a place.
-
-abbrev start_of_held : tie.After-held → tie.Start
-start_of_held c = c.before.before.before.before.before.before
-
-abbrev held_of_else1 : tie.Else1 → tie.After-held
-held_of_else1 c = c.before.before.before.before.before.before
-
 pub settle_spec : {M : Type 1} → statement M
 settle_spec =
     tie.close
@@ -22,33 +14,29 @@ settle_spec =
     -- held-requires
     (λ c κs. search rules)
     -- plain-in-requires
-    (λ c κs. let p = (start_of_held c.before.before.before).requires in (p.0, p.1, p.2, reachable_known _ p.1 _ p.3, p.4, p.5))
+    (λ c κs. let p = c.requires in (p.0, p.1, p.2, reachable_known _ p.1 _ p.3, p.4, p.5))
     -- is-unknown-requires
     (λ c κs. search rules)
     -- returns
-    (λ c. settled_plain _ _ _ _ _ _ c.before.before.Plain-in.ensures.0 (sym c.before.is-unknown.ensures ∙ not-true _ c.if1.true))
+    (λ c. settled_plain _ _ _ _ _ _ c.plain_in-w.ensures.0 (sym c.is_unknown.ensures ∙ c.if-not-is_unknown.true))
     -- has-heap-requires
     (λ c κs.
-    let after_held = held_of_else1 c in
-    let p = (start_of_held after_held).pre in (p.0, p.1, p.2, held_reach _ _ _ after_held.held.ensures p.3, held_most _ _ _ after_held.held.ensures _ p.4))
+    let p = c.requires in (p.0, p.1, p.2, held_reach _ _ _ c.held-s.ensures p.3, held_most _ _ _ c.held-s.ensures _ p.4))
     -- returns-2
-    (λ c. settled_refuted _ _ _ _ _ (held_of_else1 c.before.before.before).held.ensures _ c.before.before.has_heap.ensures.decides (not-true _ c.if2.true) _)
+    (λ c. settled_refuted _ _ _ _ _ c.held-s.ensures _ c.has_heap-d.ensures.decides (not-true _ c.if-not-d.true) _)
     -- descend-requires
     (λ c κs.
-    let else2 = c.before in let after_has_heap = else2.before.before in let after_held = held_of_else1 after_has_heap.before in
-    let p = (start_of_held after_held).pre in (
+    let p = c.requires in (
       p.0,
       p.1,
       p.2,
-      held_reach _ _ _ after_held.held.ensures p.3,
-      held_most _ _ _ after_held.held.ensures _ p.4,
-      after_has_heap.has_heap.ensures.decides.yes_right (not-false _ else2.if2.false),
-      after_has_heap.has_heap.ensures.shows (not-false _ else2.if2.false),
+      held_reach _ _ _ c.held-s.ensures p.3,
+      held_most _ _ _ c.held-s.ensures _ p.4,
+      c.has_heap-d.ensures.decides.yes_right (not-false _ c.if-not-d.false),
+      c.has_heap-d.ensures.shows (not-false _ c.if-not-d.false),
     ))
     -- returns-3
     (λ c.
-    let after_descend = c.before.before.before in let after_held = held_of_else1 after_descend.before.before.before.before.before in
-    let start = start_of_held after_held in
-    let p = start.pre in
-    settled_open _ _ _ _ _ after_held.held.ensures _ _ after_descend.descend.ensures.0
-    (marked_as _ p.1 _ start.args.single refl p.3 _ after_descend.descend.ensures.1)))
+    let p = c.requires in
+    settled_open _ _ _ _ _ c.held-s.ensures _ _ c.descend-path.ensures.0
+    (marked_as _ p.1 _ c.args.single refl p.3 _ c.descend-path.ensures.1)))

@@ -11,31 +11,31 @@ use Rattle.order_list.proofs.Order.{named, other_length, all_named}
 use Rattle.order_list.proofs.is_order.Statement.{statement}
 use Rattle.order_list.proofs.is_order.Tie as tie
 
-abbrev invariant-loop : tie.invariant-loop
-invariant-loop order n r₀ r = is_order order ≡ all (named order) (from (9 - r) r)
+abbrev invariant-loop-r : tie.invariant-loop-r
+invariant-loop-r order n r₀ r = is_order order ≡ all (named order) (from (9 - r) r)
 
-abbrev decreases-loop : tie.decreases-loop
-decreases-loop order n r₀ r = 9 - r
+abbrev decreases-loop-r : tie.decreases-loop-r
+decreases-loop-r order n r₀ r = 9 - r
 
 pub is_order_spec : {M : Type 1} → statement M
 is_order_spec =
     tie.close
     (tie.spec
-    invariant-loop
-    decreases-loop
+    invariant-loop-r
+    decreases-loop-r
     -- returns
-    (λ c. sym (other_length _ c.if1.true))
+    (λ c. sym (other_length _ c.if-n-ne8.true))
     -- loop-holds
-    (λ c. all_named _ c.if1.false)
+    (λ c. all_named _ c.if-n-ne8.false)
     -- names-requires
     (λ c κs. search rules)
     -- returns-2
-    (λ c. sym (c.before.before.before.loop.invariant ∙ all_fails _ _ _ c.before.before.loop-test.true (sym c.before.names.ensures ∙ not-true _ c.if2.true)))
+    (λ c. sym (c.loop-r.invariant ∙ all_fails _ _ _ c.loop-r-test.true (sym c.names.ensures ∙ c.if-not-names.true)))
     -- add-r
     (λ c. omega arith)
     -- loop-less
     (λ c. omega arith)
     -- loop-again
-    (λ c. c.before.before.before.loop.invariant ∙ all_next _ _ _ c.before.before.loop-test.true (sym c.before.names.ensures ∙ not-false _ c.if2.false))
+    (λ c. c.loop-r.invariant ∙ all_next _ _ _ c.loop-r-test.true (sym c.names.ensures ∙ c.if-not-names.false))
     -- returns-3
-    (λ c. sym (c.before.loop.invariant ∙ all_end _ _ _ c.loop-test.false)))
+    (λ c. sym (c.loop-r.invariant ∙ all_end _ _ _ c.loop-r-test.false)))

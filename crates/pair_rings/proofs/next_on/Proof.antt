@@ -10,38 +10,32 @@ use Rattle.pair_rings.proofs.Turns.{next_found, next_missing}
 use Rattle.pair_rings.proofs.next_on.Statement.{statement}
 use Rattle.pair_rings.proofs.next_on.Tie as tie
 
-abbrev invariant-loop : tie.invariant-loop
-invariant-loop sheet z k a r₀ r = find (onward (pairs sheet) z k a) (from 8 1) ≡ find (onward (pairs sheet) z k a) (from (9 - r) r)
+abbrev invariant-loop-r : tie.invariant-loop-r
+invariant-loop-r sheet z k a r₀ r = find (onward (pairs sheet) z k a) (from 8 1) ≡ find (onward (pairs sheet) z k a) (from (9 - r) r)
 
-abbrev decreases-loop : tie.decreases-loop
-decreases-loop sheet z k a r₀ r = 9 - r
+abbrev decreases-loop-r : tie.decreases-loop-r
+decreases-loop-r sheet z k a r₀ r = 9 - r
 
--- The places that lie behind a place.
-
-abbrev at_loop_of_is_onward : tie.After-is-onward invariant-loop decreases-loop → tie.At-loop invariant-loop decreases-loop
-at_loop_of_is_onward c = c.before.before
-
-loop_holds : tie.Need-loop-init invariant-loop decreases-loop
+loop_holds : tie.Need-loop-r-init invariant-loop-r decreases-loop-r
 loop_holds c = refl
 
 pub next_on_spec : {M : Type 1} → statement M
 next_on_spec =
     tie.close
     (tie.spec
-    invariant-loop
-    decreases-loop
+    invariant-loop-r
+    decreases-loop-r
     loop_holds
     -- is-onward-requires
     (λ c κs.
-    let start = c.before.before.before in
-    (start.requires.0, start.requires.1, start.requires.2, omega arith))
+    (c.requires.0, c.requires.1, c.requires.2, omega arith))
     -- returns
-    (λ c. sym (next_found _ _ _ _ _ ((at_loop_of_is_onward c.before).loop.inv ∙ find_here _ _ _ c.before.before.loop-test.true (sym c.before.is-onward.ensures ∙ c.if1.true))))
+    (λ c. sym (next_found _ _ _ _ _ (c.loop-r.invariant ∙ find_here _ _ _ c.loop-r-test.true (sym c.is_onward.ensures ∙ c.if-is_onward.true))))
     -- add-r
     (λ c. omega arith)
     -- loop-less
     (λ c. omega arith)
     -- loop-again
-    (λ c. (at_loop_of_is_onward c.before).loop.inv ∙ find_next _ _ _ c.before.before.loop-test.true (sym c.before.is-onward.ensures ∙ c.if1.false))
+    (λ c. c.loop-r.invariant ∙ find_next _ _ _ c.loop-r-test.true (sym c.is_onward.ensures ∙ c.if-is_onward.false))
     -- returns-2
-    (λ c. sym (next_missing _ _ _ _ (c.before.loop.invariant ∙ find_end _ _ _ c.loop-test.false))))
+    (λ c. sym (next_missing _ _ _ _ (c.loop-r.invariant ∙ find_end _ _ _ c.loop-r-test.false))))

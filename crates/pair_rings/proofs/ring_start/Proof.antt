@@ -9,18 +9,13 @@ use Rattle.ordering.specs.Finding.{leads, ring_start}
 use Rattle.pair_rings.proofs.ring_start.Statement.{statement}
 use Rattle.pair_rings.proofs.ring_start.Tie as tie
 
-abbrev invariant-loop : tie.invariant-loop
-invariant-loop sheet k s₀ s = ring_start (pairs sheet) k ≡ find (λ x. leads (pairs sheet) k x x) (from (9 - s) s)
+abbrev invariant-loop-s : tie.invariant-loop-s
+invariant-loop-s sheet k s₀ s = ring_start (pairs sheet) k ≡ find (λ x. leads (pairs sheet) k x x) (from (9 - s) s)
 
-abbrev decreases-loop : tie.decreases-loop
-decreases-loop sheet k s₀ s = 9 - s
+abbrev decreases-loop-s : tie.decreases-loop-s
+decreases-loop-s sheet k s₀ s = 9 - s
 
--- The places that lie behind a place.
-
-abbrev at_loop_of_is_led : tie.After-is-led invariant-loop decreases-loop → tie.At-loop invariant-loop decreases-loop
-at_loop_of_is_led c = c.before.before
-
-loop_holds : tie.Need-loop-init invariant-loop decreases-loop
+loop_holds : tie.Need-loop-s-init invariant-loop-s decreases-loop-s
 unfolding ring_start
 loop_holds c = refl
 
@@ -28,20 +23,19 @@ pub ring_start_spec : {M : Type 1} → statement M
 ring_start_spec =
     tie.close
     (tie.spec
-    invariant-loop
-    decreases-loop
+    invariant-loop-s
+    decreases-loop-s
     loop_holds
     -- is-led-requires
     (λ c κs.
-    let start = c.before.before.before in
-    (start.requires.0, start.requires.1, omega arith, omega arith))
+    (c.requires.0, c.requires.1, omega arith, omega arith))
     -- returns
-    (λ c. sym ((at_loop_of_is_led c.before).loop.inv ∙ find_here _ _ _ c.before.before.loop-test.true (sym c.before.is-led.ensures ∙ c.if1.true)))
+    (λ c. sym (c.loop-s.invariant ∙ find_here _ _ _ c.loop-s-test.true (sym c.is_led.ensures ∙ c.if-is_led.true)))
     -- add-s
     (λ c. omega arith)
     -- loop-less
     (λ c. omega arith)
     -- loop-again
-    (λ c. (at_loop_of_is_led c.before).loop.inv ∙ find_next _ _ _ c.before.before.loop-test.true (sym c.before.is-led.ensures ∙ c.if1.false))
+    (λ c. c.loop-s.invariant ∙ find_next _ _ _ c.loop-s-test.true (sym c.is_led.ensures ∙ c.if-is_led.false))
     -- returns-2
-    (λ c. sym (c.before.loop.invariant ∙ find_end _ _ _ c.loop-test.false)))
+    (λ c. sym (c.loop-s.invariant ∙ find_end _ _ _ c.loop-s-test.false)))

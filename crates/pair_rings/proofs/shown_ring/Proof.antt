@@ -13,54 +13,40 @@ use Rattle.pair_rings.proofs.Turns.{start_small, ring_here, ring-not, shown_some
 use Rattle.pair_rings.proofs.shown_ring.Statement.{statement}
 use Rattle.pair_rings.proofs.shown_ring.Tie as tie
 
-abbrev invariant-loop : tie.invariant-loop
-invariant-loop sheet k₀ k = (1 ≤ k) × (first_of (ring_of (pairs sheet)) (from 8 1) ≡ first_of (ring_of (pairs sheet)) (from (9 - k) k))
+abbrev invariant-loop-k : tie.invariant-loop-k
+invariant-loop-k sheet k₀ k = (1 ≤ k) × (first_of (ring_of (pairs sheet)) (from 8 1) ≡ first_of (ring_of (pairs sheet)) (from (9 - k) k))
 
-abbrev decreases-loop : tie.decreases-loop
-decreases-loop sheet k₀ k = 9 - k
-
--- The places that lie behind a place.
-
-abbrev ring_start_of_enum_told : tie.After-enum-told invariant-loop decreases-loop → tie.After-ring-start invariant-loop decreases-loop
-ring_start_of_enum_told c = c.before.before
-
-abbrev ring_start_of_known_told : tie.After-known-told invariant-loop decreases-loop → tie.After-ring-start invariant-loop decreases-loop
-ring_start_of_known_told c = c.before.before.before
-
-abbrev start_of_in_loop : tie.In-loop invariant-loop decreases-loop → tie.Start invariant-loop decreases-loop
-start_of_in_loop c = c.before.before.before
+abbrev decreases-loop-k : tie.decreases-loop-k
+decreases-loop-k sheet k₀ k = 9 - k
 
 pub shown_ring_spec : {M : Type 1} → statement M
 unfolding padded
 shown_ring_spec =
     tie.close
     (tie.spec
-    invariant-loop
-    decreases-loop
+    invariant-loop-k
+    decreases-loop-k
     -- loop-holds
     (λ c. (omega arith, refl))
     -- ring-start-requires
-    (λ c κs. (start_of_in_loop c).requires)
+    (λ c κs. c.requires)
     -- enum-known-s
     (λ c. search rules)
     -- follow-ring-requires
-    (λ c κs.
-    let after_ring_start = ring_start_of_known_told c in let in_loop = after_ring_start.before in let at_loop = in_loop.before in
-    let start = start_of_in_loop in_loop in (
-      start.pre.0,
-      start.pre.1,
-      at_loop.loop.inv.0,
-      omega (arith, in_loop.loop-test.taken),
-      start_small _ at_loop.loop.k _ (sym after_ring_start.ring-start.ensures ∙ ap found_of c.before.s.given.1),
+    (λ c κs. (
+      c.requires.0,
+      c.requires.1,
+      c.loop-k.invariant.0,
+      omega (arith, c.loop-k-test.true),
+      start_small _ c.loop-k.k _ (sym c.ring_start.ensures ∙ ap found_of c.in-At.is),
     ))
     -- returns
-    (λ c.
-    let after_ring_start = ring_start_of_known_told c.before in let in_loop = after_ring_start.before in let at_loop = in_loop.before in (
-      c.follow-ring.ensures.0,
-      c.follow-ring.ensures.1
+    (λ c. (
+      c.follow_ring.ensures.0,
+      c.follow_ring.ensures.1
           ∙ ap (padded 8) (sym (shown_some _ _
-          (at_loop.loop.inv.1 ∙ first_here _ _ at_loop.loop.k _ in_loop.loop-test.taken
-          (ring_here _ at_loop.loop.k _ (sym after_ring_start.ring-start.ensures ∙ ap found_of c.before.before.s.given.1))))),
+          (c.loop-k.invariant.1 ∙ first_here _ _ c.loop-k.k _ c.loop-k-test.true
+          (ring_here _ c.loop-k.k _ (sym c.ring_start.ensures ∙ ap found_of c.in-At.is))))),
     ))
     -- enum_told
     (λ c. search rules)
@@ -69,13 +55,11 @@ shown_ring_spec =
     -- loop-less
     (λ c. omega arith)
     -- loop-again
-    (λ c.
-    let after_ring_start = ring_start_of_enum_told c in let in_loop = after_ring_start.before in let at_loop = in_loop.before in (
+    (λ c. (
       omega arith,
-      at_loop.loop.inv.1 ∙ first_next _ _ at_loop.loop.k in_loop.loop-test.taken
-          (ring-not _ at_loop.loop.k (sym after_ring_start.ring-start.ensures ∙ ap found_of c.enum_told.given.1)),
+      c.loop-k.invariant.1 ∙ first_next _ _ c.loop-k.k c.loop-k-test.true
+          (ring-not _ c.loop-k.k (sym c.ring_start.ensures ∙ ap found_of c.in-Nothing.is)),
     ))
     -- returns-2
     (λ c.
-    let at_loop = c.before in
-    (refl, ap (padded 8) (sym (shown_none _ (at_loop.loop.invariant.1 ∙ first_end _ _ at_loop.loop.k c.loop-test.false))))))
+    (refl, ap (padded 8) (sym (shown_none _ (c.loop-k.invariant.1 ∙ first_end _ _ c.loop-k.k c.loop-k-test.false))))))

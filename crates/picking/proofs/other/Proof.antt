@@ -13,7 +13,7 @@ other_spec =
     -- enum-known-k
     (λ c. search rules)
     -- returns
-    (λ c. handed_on _ _ _ _ c.before.k.given.1 c.before.before.before.failing.ensures)
+    (λ c. handed_on _ _ _ _ c.in-Apply.is c.failing.ensures)
     -- enum-told
     (λ c. search rules)
     -- returns-2

@@ -13,7 +13,7 @@ pick_spec =
     -- enum-known-k
     (λ c. search rules)
     -- returns
-    (λ c. handed_on _ _ _ _ c.before.k.given.1 c.before.before.before.unit.ensures)
+    (λ c. handed_on _ _ _ _ c.in-Apply.is c.unit.ensures)
     -- enum-told
     (λ c. search rules)
     -- total-first-requires
@@ -25,7 +25,7 @@ pick_spec =
     -- enum-known-k-2
     (λ c. search rules)
     -- returns-3
-    (λ c. handed_on _ _ _ _ c.before.k2.given.1 c.before.before.before.other.ensures)
+    (λ c. handed_on _ _ _ _ c.in-Apply-other.is c.other.ensures)
     -- enum-told-2
     (λ c. search rules)
     -- plain-requires

@@ -15,4 +15,4 @@ plain_spec =
     -- choose-requires
     (λ c κs. search rules)
     -- returns
-    (λ c. chosen_picks _ c.before.before.before.before.before.before.requires _ plain_order _ c.choose.result c.choose.ensures))
+    (λ c. chosen_picks _ c.requires _ plain_order _ c.choose.result c.choose.ensures))

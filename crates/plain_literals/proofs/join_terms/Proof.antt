@@ -10,17 +10,6 @@ use Rattle.plain_literals.proofs.Taken.{read_bounded, join-plain}
 use Rattle.plain_literals.proofs.join_terms.Statement.{statement}
 use Rattle.plain_literals.proofs.join_terms.Tie as tie
 
--- The places that lie behind a place.
-
-abbrev read_rep_of_read_rep2 : tie.After-read-rep2 → tie.After-read-rep
-read_rep_of_read_rep2 c = c.before.before
-
-abbrev start_of_read_rep : tie.After-read-rep → tie.Start
-start_of_read_rep c = c.before.before
-
-abbrev read_rep2_of_join_arg5 : tie.After-join-arg5 → tie.After-read-rep2
-read_rep2_of_join_arg5 c = c.before.before.before.before.before
-
 pub join_terms_spec : {M : Type 1} → statement M
 join_terms_spec =
     tie.close
@@ -31,29 +20,25 @@ join_terms_spec =
     (λ c κs. search rules)
     -- join-requires
     (λ c κs.
-    let after_read_rep2 = read_rep2_of_join_arg5 c in let after_read_rep = read_rep_of_read_rep2 after_read_rep2 in
-    let start = start_of_read_rep after_read_rep in
-    let a = start.args in
-    let p = start.pre.0 in
-    let e = after_read_rep.read-rep.ensures in
-    let f = after_read_rep2.read-rep2.ensures in (
+    let a = c.args in
+    let p = c.requires.0 in
+    let e = c.read_rep-a.ensures in
+    let f = c.read_rep-b.ensures in (
       (
         p.0,
         read_bounded a.rep.now p.2 a.left.0 _ p.1.left_within e,
         read_bounded a.rep.now p.2 a.right.0 _ p.1.right_within f,
         subst Fits (sym (join-plain a.single a.rep.now a.link.now a.reach.now (same a.left.0 a.right.0) _ _ e f refl a.n _)) p.3,
       ),
-      start.pre.1,
+      c.requires.1,
     ))
     -- returns
     (λ c.
-    let after_read_rep2 = read_rep2_of_join_arg5 c.before in let after_read_rep = read_rep_of_read_rep2 after_read_rep2 in
-    let start = start_of_read_rep after_read_rep in
-    let a = start.args in
-    let p = start.pre.0 in
+    let a = c.args in
+    let p = c.requires.0 in
     let l = same a.left.0 a.right.0 in
-    let whole = c.join.ensures.0 ∙ join-plain a.single a.rep.now a.link.now a.reach.now l _ _ after_read_rep.read-rep.ensures
-    after_read_rep2.read-rep2.ensures refl a.n _ in (
+    let whole = c.join.ensures.0 ∙ join-plain a.single a.rep.now a.link.now a.reach.now l _ _ c.read_rep-a.ensures
+    c.read_rep-b.ensures refl a.n _ in (
       whole,
       (
         rep_bounded _ (and_then (joined_in a.single a.rep.now a.link.now a.reach.now a.kept.now a.replaced.now a.count)

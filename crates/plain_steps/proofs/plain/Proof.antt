@@ -22,7 +22,6 @@ plain_spec =
     (tie.spec
     -- plain-in-requires
     (λ c κs.
-    let start = c.before.before.before.before.before.before.before.before in
-    let p = start.requires in (p.0, p.1, p.2, p.3, p.4, whole start.lifetimes (lts.dens (plain_in_reads.Asked, plain_in_reads.Learnt) reads.Pre reads.Post start.lifetimes start.args) start.well-formed))
+    let p = c.requires in (p.0, p.1, p.2, p.3, p.4, whole c.lifetimes (lts.dens (plain_in_reads.Asked, plain_in_reads.Learnt) reads.Pre reads.Post c.lifetimes c.args) c.well_formed))
     -- returns
-    (λ c. c.Plain-in.ensures.0))
+    (λ c. c.plain_in-w.ensures.0))

@@ -4,17 +4,6 @@ use Rattle.precedence.proofs.Answered.{grown_some, grown_none, order_size, does_
 use Rattle.precedence.proofs.answer.Statement.{statement}
 use Rattle.precedence.proofs.answer.Tie as tie
 
--- The places that lie behind a place.
-
-abbrev write_of_slice_known2 : tie.After-slice-known2 → tie.After-write
-write_of_slice_known2 c = c.before.before
-
-abbrev write2_of_slice_known3 : tie.After-slice-known3 → tie.After-write2
-write2_of_slice_known3 c = c.before.before
-
-abbrev start_of_place_all : tie.After-place-all → tie.Start
-start_of_place_all c = c.before.before.before
-
 pub answer_spec : {M : Type 1} → statement M
 answer_spec =
     tie.close
@@ -27,11 +16,9 @@ answer_spec =
     (λ c. search rules)
     -- returns
     (λ c.
-    let after_write = write_of_slice_known2 c in let then1 = after_write.before.before.before.before in
-    let after_place_all = then1.before in let start = start_of_place_all after_place_all in
-    let e = grown_some after_place_all.place-all.result _ then1.if1.taken after_place_all.place-all.ensures in
-    does_order _ _ after_place_all.place-all.result.list _ e
-    (order_size start.args.sheet.now after_place_all.place-all.result.list start.pre.0 start.pre.1 e) after_write.write.ensures)
+    let e = grown_some c.place_all-grown.result _ c.if-grown.true c.place_all-grown.ensures in
+    does_order _ _ c.place_all-grown.result.list _ e
+    (order_size c.args.sheet.now c.place_all-grown.result.list c.requires.0 c.requires.1 e) c.write.ensures)
     -- shown-ring-requires
     (λ c κs. search rules)
     -- write-requires-2
@@ -40,9 +27,7 @@ answer_spec =
     (λ c. search rules)
     -- returns-2
     (λ c.
-    let after_write2 = write2_of_slice_known3 c in let after_shown_ring = after_write2.before.before.before in
-    let else1 = after_shown_ring.before in let after_place_all = else1.before in
-    does_ring _ _ after_shown_ring.shown-ring.result _
-    (grown_none after_place_all.place-all.result _ else1.if1.left after_place_all.place-all.ensures)
-    after_shown_ring.shown-ring.ensures.0 after_shown_ring.shown-ring.ensures.1 (start_of_place_all after_place_all).pre.2
-    after_write2.write2.ensures))
+    does_ring _ _ c.shown_ring-ring.result _
+    (grown_none c.place_all-grown.result _ c.if-grown.false c.place_all-grown.ensures)
+    c.shown_ring-ring.ensures.0 c.shown_ring-ring.ensures.1 c.requires.2
+    c.write-2.ensures))

@@ -10,11 +10,10 @@ is_ready_spec =
     (tie.spec
     -- placed-requires
     (λ c κs.
-    let start = c.before in
-    (start.requires.0, start.requires.1))
+    (c.requires.0, c.requires.1))
     -- returns
-    (λ c. sym (ready-placed _ _ _ (sym c.before.placed.ensures ∙ c.if1.true)))
+    (λ c. sym (ready-placed _ _ _ (sym c.placed.ensures ∙ c.if-placed.true)))
     -- is-free-requires
-    (λ c κs. c.before.before.before.requires)
+    (λ c κs. c.requires)
     -- returns-2
-    (λ c. c.is_free.ensures ∙ sym (ready-free _ _ _ (sym c.before.before.placed.ensures ∙ c.before.if1.false))))
+    (λ c. c.is_free.ensures ∙ sym (ready-free _ _ _ (sym c.placed.ensures ∙ c.if-placed.false))))

@@ -10,18 +10,13 @@ use Rattle.ordering.specs.Finding.{ready, next_rule}
 use Rattle.precedence.proofs.next_rule.Statement.{statement}
 use Rattle.precedence.proofs.next_rule.Tie as tie
 
-abbrev invariant-loop : tie.invariant-loop
-invariant-loop sheet list n r₀ r = next_rule (pairs sheet) (take n list) ≡ find (ready (pairs sheet) (take n list)) (from (9 - r) r)
+abbrev invariant-loop-r : tie.invariant-loop-r
+invariant-loop-r sheet list n r₀ r = next_rule (pairs sheet) (take n list) ≡ find (ready (pairs sheet) (take n list)) (from (9 - r) r)
 
-abbrev decreases-loop : tie.decreases-loop
-decreases-loop sheet list n r₀ r = 9 - r
+abbrev decreases-loop-r : tie.decreases-loop-r
+decreases-loop-r sheet list n r₀ r = 9 - r
 
--- The places that lie behind a place.
-
-abbrev at_loop_of_is_ready : tie.After-is-ready invariant-loop decreases-loop → tie.At-loop invariant-loop decreases-loop
-at_loop_of_is_ready c = c.before.before
-
-loop_holds : tie.Need-loop-init invariant-loop decreases-loop
+loop_holds : tie.Need-loop-r-init invariant-loop-r decreases-loop-r
 unfolding next_rule
 loop_holds c = refl
 
@@ -29,18 +24,18 @@ pub next_rule_spec : {M : Type 1} → statement M
 next_rule_spec =
     tie.close
     (tie.spec
-    invariant-loop
-    decreases-loop
+    invariant-loop-r
+    decreases-loop-r
     loop_holds
     -- is-ready-requires
-    (λ c κs. c.before.before.before.requires)
+    (λ c κs. c.requires)
     -- returns
-    (λ c. sym ((at_loop_of_is_ready c.before).loop.inv ∙ find_here _ _ _ c.before.before.loop-test.true (sym c.before.is-ready.ensures ∙ c.if1.true)))
+    (λ c. sym (c.loop-r.invariant ∙ find_here _ _ _ c.loop-r-test.true (sym c.is_ready.ensures ∙ c.if-is_ready.true)))
     -- add-r
     (λ c. omega arith)
     -- loop-less
     (λ c. omega arith)
     -- loop-again
-    (λ c. (at_loop_of_is_ready c.before).loop.inv ∙ find_next _ _ _ c.before.before.loop-test.true (sym c.before.is-ready.ensures ∙ c.if1.false))
+    (λ c. c.loop-r.invariant ∙ find_next _ _ _ c.loop-r-test.true (sym c.is_ready.ensures ∙ c.if-is_ready.false))
     -- returns-2
-    (λ c. sym (c.before.loop.invariant ∙ find_end _ _ _ c.loop-test.false)))
+    (λ c. sym (c.loop-r.invariant ∙ find_end _ _ _ c.loop-r-test.false)))

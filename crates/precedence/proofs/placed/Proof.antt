@@ -10,35 +10,32 @@ use Rattle.precedence.proofs.Turns.{placed_end, placed_here, placed-next}
 use Rattle.precedence.proofs.placed.Statement.{statement}
 use Rattle.precedence.proofs.placed.Tie as tie
 
-abbrev invariant-loop : tie.invariant-loop
-invariant-loop list n r i₀ i = any (eqb r) (take n list) ≡ any (eqb r) (drop i (take n list))
+abbrev invariant-loop-i : tie.invariant-loop-i
+invariant-loop-i list n r i₀ i = any (eqb r) (take n list) ≡ any (eqb r) (drop i (take n list))
 
-abbrev decreases-loop : tie.decreases-loop
-decreases-loop list n r i₀ i = n - i
+abbrev decreases-loop-i : tie.decreases-loop-i
+decreases-loop-i list n r i₀ i = n - i
 
 pub placed_spec : {M : Type 1} → statement M
 placed_spec =
     tie.close
     (tie.spec
-    invariant-loop
-    decreases-loop
+    invariant-loop-i
+    decreases-loop-i
     -- loop-holds
     (λ c. refl)
     -- array-read-x
     (λ c. search rules)
     -- returns
     (λ c.
-    let at_loop = c.before.before.before in let start = at_loop.before in
-    sym (at_loop.loop.invariant ∙ placed_here start.args.r start.args.list.now start.args.n (omega arith) at_loop.loop.i (omega arith) c.if1.true))
+    sym (c.loop-i.invariant ∙ placed_here c.args.r c.args.list.now c.args.n (omega arith) c.loop-i.i (omega arith) c.if-r-x.true))
     -- add-i
     (λ c. omega arith)
     -- loop-less
     (λ c. omega arith)
     -- loop-again
     (λ c.
-    let at_loop = c.before.before.before in let start = at_loop.before in
-    at_loop.loop.invariant ∙ placed-next start.args.r start.args.list.now start.args.n (omega arith) at_loop.loop.i (omega arith) c.if1.false)
+    c.loop-i.invariant ∙ placed-next c.args.r c.args.list.now c.args.n (omega arith) c.loop-i.i (omega arith) c.if-r-x.false)
     -- returns-2
     (λ c.
-    let at_loop = c.before in let start = at_loop.before in
-    sym (at_loop.loop.invariant ∙ placed_end start.args.r start.args.list.now start.args.n (omega arith) at_loop.loop.i (omega arith))))
+    sym (c.loop-i.invariant ∙ placed_end c.args.r c.args.list.now c.args.n (omega arith) c.loop-i.i (omega arith))))

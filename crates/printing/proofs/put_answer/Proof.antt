@@ -12,13 +12,9 @@ put_answer_spec =
     (tie.spec
     -- enum_told
     (λ c. search rules)
-    -- slice-aggregate-put-bytes
-    (λ c. search rules)
     -- put-bytes-requires
     (λ c κs. search rules)
     -- enum-told-2
-    (λ c. search rules)
-    -- slice-aggregate-put-bytes-2
     (λ c. search rules)
     -- put-bytes-requires-2
     (λ c κs. search rules)
@@ -30,17 +26,14 @@ put_answer_spec =
     (λ c. search rules)
     -- returns
     (λ c.
-    let after_put_bytes = c.before.before in
-    (writes_as (sat_words _ after_put_bytes.before.before.before.enum_told.given.1) after_put_bytes.put-bytes.ensures, omega (arith, after_put_bytes.put-bytes.ensures.ends)))
+    (writes_as (sat_words _ c.in-Satisfiable.is) c.put_bytes.ensures, omega (arith, c.put_bytes.ensures.ends)))
     -- same-length-2
     (λ c. search rules)
     -- returns-2
     (λ c.
-    let after_put_bytes2 = c.before.before in
-    (writes_as (unsat_words _ after_put_bytes2.before.before.before.enum-told2.given.1) after_put_bytes2.put-bytes2.ensures, omega (arith, after_put_bytes2.put-bytes2.ensures.ends)))
+    (writes_as (unsat_words _ c.in-Refuted.is) c.put_bytes-in-Refuted.ensures, omega (arith, c.put_bytes-in-Refuted.ensures.ends)))
     -- same-length-3
     (λ c. search rules)
     -- returns-3
     (λ c.
-    let after_put_refused = c.before.before in
-    (writes_as (refusal_words _ _ _ after_put_refused.before.before.before.answer.given.1) after_put_refused.Put-refused.ensures.0, after_put_refused.Put-refused.ensures.1)))
+    (writes_as (refusal_words _ _ _ c.in-Refused.is) c.put_refused.ensures.0, c.put_refused.ensures.1)))

@@ -12,19 +12,19 @@ use Rattle.printing.proofs.Texts.{lines_left, lines_whole, lines_next, lines_end
 use Rattle.printing.proofs.put_lines.Statement.{statement}
 use Rattle.printing.proofs.put_lines.Tie as tie
 
-abbrev invariant-loop : tie.invariant-loop
-invariant-loop buffer₀ at lines count to₀ i₀ buffer to i = (i ≤ count) × (to ≤ at + 16 * i) × (count ≡ length (lines_in lines))
+abbrev invariant-loop-i : tie.invariant-loop-i
+invariant-loop-i buffer₀ at lines count to₀ i₀ buffer to i = (i ≤ count) × (to ≤ at + 16 * i) × (count ≡ length (lines_in lines))
     × Part buffer₀ at (flat_map line_text (lines_in lines)) buffer to (lines_left count lines i)
 
-abbrev decreases-loop : tie.decreases-loop
-decreases-loop buffer₀ at lines count to₀ i₀ buffer to i = count - i
+abbrev decreases-loop-i : tie.decreases-loop-i
+decreases-loop-i buffer₀ at lines count to₀ i₀ buffer to i = count - i
 
 pub put_lines_spec : {M : Type 1} → statement M
 put_lines_spec =
     tie.close
     (tie.spec
-    invariant-loop
-    decreases-loop
+    invariant-loop-i
+    decreases-loop-i
     -- shared-slice-read-wide
     (λ c. search rules)
     -- wide-requires
@@ -38,7 +38,7 @@ put_lines_spec =
     -- add-count
     (λ c. search rules)
     -- loop-holds
-    (λ c. (omega arith, omega arith, omega (arith, lines-count c.before.before.before.before.before.before.args.lines.now), part_from _ _ (lines_whole _ _ (omega arith))))
+    (λ c. (omega arith, omega arith, omega (arith, lines-count c.args.lines.now), part_from _ _ (lines_whole _ _ (omega arith))))
     -- mul-from
     (λ c. omega arith)
     -- add-from
@@ -64,14 +64,13 @@ put_lines_spec =
     -- loop-less
     (λ c. omega arith)
     -- loop-again
-    (λ c.
-    let after_put_line = c.before.before in let at_loop = after_put_line.before.before.before.before.before.before.before in (
+    (λ c. (
       omega arith,
-      omega (arith, after_put_line.put-line.ensures.1),
-      at_loop.loop.invariant.2,
-      part_more at_loop.loop.invariant.3 (lines_next _ _ at_loop.loop.i _ refl (omega arith)) after_put_line.put-line.ensures.0,
+      omega (arith, c.put_line-to.ensures.1),
+      c.loop-i.invariant.2,
+      part_more c.loop-i.invariant.3 (lines_next _ _ c.loop-i.i _ refl (omega arith)) c.put_line-to.ensures.0,
     ))
     -- same-length
-    (λ c. part_length c.before.loop.invariant.3)
+    (λ c. part_length c.loop-i.invariant.3)
     -- returns
-    (λ c. (part_all c.before.loop.invariant.3 (lines_end _ _ _ (omega arith)), omega arith)))
+    (λ c. (part_all c.loop-i.invariant.3 (lines_end _ _ _ (omega arith)), omega arith)))

@@ -30,9 +30,8 @@ put_links_text_spec =
     -- same-length
     (λ c. search rules)
     -- returns
-    (λ c.
-    let after_put_three = c.before.before in let after_at_most2 = after_put_three.before.before.before.before in (
-      writes_as (text-read _ _ _ after_at_most2.before.at_most.ensures after_at_most2.at-most2.ensures three_link_form)
-          after_put_three.put_three.ensures.0,
-      after_put_three.put_three.ensures.1,
+    (λ c. (
+      writes_as (text-read _ _ _ c.at_most-cut.ensures c.at_most-end.ensures three_link_form)
+          c.put_three.ensures.0,
+      c.put_three.ensures.1,
     )))

@@ -31,5 +31,4 @@ put_text_spec =
     (λ c. search rules)
     -- returns
     (λ c.
-    let after_put_one = c.before.before in let after_at_most2 = after_put_one.before.before.before.before in
-    (writes_as (text-read _ _ _ after_at_most2.before.at_most.ensures after_at_most2.at-most2.ensures one_link_form) after_put_one.put_one.ensures.0, after_put_one.put_one.ensures.1)))
+    (writes_as (text-read _ _ _ c.at_most-cut.ensures c.at_most-end.ensures one_link_form) c.put_one.ensures.0, c.put_one.ensures.1)))

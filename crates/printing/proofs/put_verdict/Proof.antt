@@ -14,45 +14,26 @@ use Rattle.printing.proofs.Calls.{sat_text_lem, unsat_text_lem, refused_text_lem
 use Rattle.printing.proofs.put_verdict.Statement.{statement}
 use Rattle.printing.proofs.put_verdict.Tie as tie
 
--- The places that lie behind a place.
-
-abbrev put_bytes2_of_put_derivation_arg : tie.After-put-derivation-arg → tie.After-put-bytes2
-put_bytes2_of_put_derivation_arg c = c.before.before.before
-
-abbrev put_bytes_of_put_report_arg : tie.After-put-report-arg → tie.After-put-bytes
-put_bytes_of_put_report_arg c = c.before.before.before
-
-abbrev enum_told_of_put_bytes : tie.After-put-bytes → tie.After-enum-told
-enum_told_of_put_bytes c = c.before.before.before
-
-abbrev start_of_enum_told : tie.After-enum-told → tie.Start
-start_of_enum_told c = c.before.before.before.before.before.before
-
 pub put_verdict_spec : {M : Type 1} → statement M
 put_verdict_spec =
     tie.close
     (tie.spec
     -- enum_told
     (λ c. search rules)
-    -- slice-aggregate-put-bytes
-    (λ c. search rules)
     -- put-bytes-requires
     (λ c κs. search rules)
     -- put-report-requires
     (λ c κs.
-    let after_put_bytes = put_bytes_of_put_report_arg c in let after_enum_told = enum_told_of_put_bytes after_put_bytes in
-    let start = start_of_enum_told after_enum_told in let three = start.args.three in
-    let some = some-links three start.args.links start.pre.0 in
-    let formed = report_formed (form_of three) (laws_of three) _ _ (replicate (form_of three).room 0) _ _ start.pre.1 after_enum_told.enum_told.given.1 in
-    (omega (arith, after_put_bytes.put-bytes.ensures.ends), some.0, some.1, subst (λ (k : ℕ). well_formed k start.args.report.now ≡ true) (sym start.pre.0) formed))
+    let three = c.args.three in
+    let some = some-links three c.args.links c.requires.0 in
+    let formed = report_formed (form_of three) (laws_of three) _ _ (replicate (form_of three).room 0) _ _ c.requires.1 c.in-Satisfiable.is in
+    (omega (arith, c.put_bytes-to.ensures.ends), some.0, some.1, subst (λ (k : ℕ). well_formed k c.args.report.now ≡ true) (sym c.requires.0) formed))
     -- enum-told-2
-    (λ c. search rules)
-    -- slice-aggregate-put-bytes-2
     (λ c. search rules)
     -- put-bytes-requires-2
     (λ c κs. search rules)
     -- put-derivation-requires
-    (λ c κs. omega (arith, (put_bytes2_of_put_derivation_arg c).put-bytes2.ensures.ends))
+    (λ c κs. omega (arith, c.put_bytes-to-in-Refuted.ensures.ends))
     -- enum-known-answer
     (λ c. search rules)
     -- put-refusal-requires
@@ -61,32 +42,25 @@ put_verdict_spec =
     (λ c. search rules)
     -- returns
     (λ c.
-    let after_put_report = c.before.before in let after_put_bytes = put_bytes_of_put_report_arg after_put_report.before in
-    let after_enum_told = enum_told_of_put_bytes after_put_bytes in let start = start_of_enum_told after_enum_told in
-    let three = start.args.three in
-    let some = some-links three start.args.links start.pre.0 in (
-      writes_as (sat_text_lem (form_of three) _ _ _ _ _ start.pre.1 (length-replicate (form_of three).room 0) after_enum_told.enum_told.given.1)
-          (writes_then after_put_bytes.put-bytes.ensures after_put_report.put-report.ensures.0),
-      omega (arith, some.1, after_put_bytes.put-bytes.ensures.ends, after_put_report.put-report.ensures.1),
+    let three = c.args.three in
+    let some = some-links three c.args.links c.requires.0 in (
+      writes_as (sat_text_lem (form_of three) _ _ _ _ _ c.requires.1 (length-replicate (form_of three).room 0) c.in-Satisfiable.is)
+          (writes_then c.put_bytes-to.ensures c.put_report.ensures.0),
+      omega (arith, some.1, c.put_bytes-to.ensures.ends, c.put_report.ensures.1),
     ))
     -- same-length-2
     (λ c. search rules)
     -- returns-2
-    (λ c.
-    let after_put_derivation = c.before.before in let after_put_bytes2 = put_bytes2_of_put_derivation_arg after_put_derivation.before in
-    let after_enum_told2 = after_put_bytes2.before.before.before in
-    let start = after_enum_told2.before.before.before.before.before.before in (
-      writes_as (unsat_text_lem (form_of start.args.three) _ _ _ _ _ start.pre.1 (length-replicate (form_of start.args.three).room 0)
-          after_enum_told2.enum-told2.given.1) (writes_then after_put_bytes2.put-bytes2.ensures after_put_derivation.put-derivation.ensures.0),
-      omega (arith, after_put_bytes2.put-bytes2.ensures.ends, after_put_derivation.put-derivation.ensures.1),
+    (λ c. (
+      writes_as (unsat_text_lem (form_of c.args.three) _ _ _ _ _ c.requires.1 (length-replicate (form_of c.args.three).room 0)
+          c.in-Refuted.is) (writes_then c.put_bytes-to-in-Refuted.ensures c.put_derivation.ensures.0),
+      omega (arith, c.put_bytes-to-in-Refuted.ensures.ends, c.put_derivation.ensures.1),
     ))
     -- same-length-3
     (λ c. search rules)
     -- returns-3
-    (λ c.
-    let after_put_refusal = c.before.before in let after_answer = after_put_refusal.before.before.before in
-    let start = after_answer.before.before.before.before.before.before in (
-      writes_as (refused_text_lem (form_of start.args.three) _ _ _ _ _ start.requires.1 (length-replicate (form_of start.args.three).room 0) _ _
-          after_answer.answer.given.1) after_put_refusal.put-refusal.ensures.0,
-      omega (arith, after_put_refusal.put-refusal.ensures.1),
+    (λ c. (
+      writes_as (refused_text_lem (form_of c.args.three) _ _ _ _ _ c.requires.1 (length-replicate (form_of c.args.three).room 0) _ _
+          c.in-Refused.is) c.put_refusal.ensures.0,
+      omega (arith, c.put_refusal.ensures.1),
     )))

@@ -9,6 +9,6 @@ and_left_spec =
     tie.close
     (tie.spec
     -- returns
-    (λ c. (rw (eq-eqb _ _ c.if1.true) refl, refl))
+    (λ c. (rw (eq-eqb _ _ c.if-left-eq0.true) refl, refl))
     -- returns-2
-    (λ c. (rw (ne_eqb _ _ c.if1.false) refl, refl)))
+    (λ c. (rw (ne_eqb _ _ c.if-left-eq0.false) refl, refl)))

@@ -18,11 +18,9 @@ clashes_spec =
     (λ c. search rules)
     -- returns
     (λ c.
-    let after_find_clash = c.before.before in
-    ap is_some (sym (ap line_of c.enum_told.given.1) ∙ path_clash_lem after_find_clash.find-clash.result _ _ after_find_clash.find-clash.ensures))
+    ap is_some (sym (ap line_of c.in-At.is) ∙ path_clash_lem c.find_clash.result _ _ c.find_clash.ensures))
     -- enum-told-2
     (λ c. search rules)
     -- returns-2
     (λ c.
-    let after_find_clash = c.before.before in
-    ap is_some (sym (ap line_of c.enum-told2.given.1) ∙ path_clash_lem after_find_clash.find-clash.result _ _ after_find_clash.find-clash.ensures)))
+    ap is_some (sym (ap line_of c.in_default.is) ∙ path_clash_lem c.find_clash.result _ _ c.find_clash.ensures)))

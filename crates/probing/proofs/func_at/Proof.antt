@@ -6,33 +6,27 @@ use mathlib.Core.Path.{sym, ◌∙◌}
 use Rattle.probing.proofs.func_at.Statement.{statement}
 use Rattle.probing.proofs.func_at.Tie as tie
 
-abbrev invariant-loop : tie.invariant-loop
-invariant-loop query layout s k far x y z₀ z = z ≤ 17
+abbrev invariant-loop-z : tie.invariant-loop-z
+invariant-loop-z query layout s k far x y z₀ z = z ≤ 17
 
-abbrev decreases-loop : tie.decreases-loop
-decreases-loop query layout s k far x y z₀ z = 17 - z
-
--- The places that lie behind a place.
-
-abbrev then1_of_then2 : tie.Then2 invariant-loop decreases-loop → tie.Then1 invariant-loop decreases-loop
-then1_of_then2 c = c.before.before
+abbrev decreases-loop-z : tie.decreases-loop-z
+decreases-loop-z query layout s k far x y z₀ z = 17 - z
 
 pub func_at_spec : {M : Type 1} → statement M
 func_at_spec =
     tie.close
     (tie.spec
-    invariant-loop
-    decreases-loop
+    invariant-loop-z
+    decreases-loop-z
     -- loop-holds
     (λ c. omega arith)
     -- has-requires
     (λ c κs. omega arith)
     -- some-soon-clashes-requires
-    (λ c κs. let p = c.before.before.before.before.before.requires in (p.0, p.1, p.2, p.3, omega arith))
+    (λ c κs. let p = c.requires in (p.0, p.1, p.2, p.3, omega arith))
     -- returns
     (λ c.
-    let then1 = then1_of_then2 c in
-    (omega arith, sym then1.before.has.ensures ∙ then1.if1.taken))
+    (omega arith, sym c.has.ensures ∙ c.if-has.true))
     -- add-z
     (λ c. omega arith)
     -- loop-less

@@ -5,18 +5,18 @@ use borrow.Author.Rules.{rules}
 use Rattle.probing.proofs.some_soon_clashes.Statement.{statement}
 use Rattle.probing.proofs.some_soon_clashes.Tie as tie
 
-abbrev invariant-loop : tie.invariant-loop
-invariant-loop query layout s k rule x y z n total i₀ i = i ≤ total
+abbrev invariant-loop-i : tie.invariant-loop-i
+invariant-loop-i query layout s k rule x y z n total i₀ i = i ≤ total
 
-abbrev decreases-loop : tie.decreases-loop
-decreases-loop query layout s k rule x y z n total i₀ i = total - i
+abbrev decreases-loop-i : tie.decreases-loop-i
+decreases-loop-i query layout s k rule x y z n total i₀ i = total - i
 
 pub some_soon_clashes_spec : {M : Type 1} → statement M
 some_soon_clashes_spec =
     tie.close
     (tie.spec
-    invariant-loop
-    decreases-loop
+    invariant-loop-i
+    decreases-loop-i
     -- count-requires
     (λ c κs. search rules)
     -- loop-holds

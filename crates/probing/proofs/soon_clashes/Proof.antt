@@ -7,18 +7,18 @@ use Rattle.units.proofs.Places.{applies_by, handed_on}
 use Rattle.probing.proofs.soon_clashes.Statement.{statement}
 use Rattle.probing.proofs.soon_clashes.Tie as tie
 
-abbrev invariant-loop : tie.invariant-loop
-invariant-loop query layout t₀ turn₀ t turn = turn ≤ 30
+abbrev invariant-loop-turn : tie.invariant-loop-turn
+invariant-loop-turn query layout t₀ turn₀ t turn = turn ≤ 30
 
-abbrev decreases-loop : tie.decreases-loop
-decreases-loop query layout t₀ turn₀ t turn = 30 - turn
+abbrev decreases-loop-turn : tie.decreases-loop-turn
+decreases-loop-turn query layout t₀ turn₀ t turn = 30 - turn
 
 pub soon_clashes_spec : {M : Type 1} → statement M
 soon_clashes_spec =
     tie.close
     (tie.spec
-    invariant-loop
-    decreases-loop
+    invariant-loop-turn
+    decreases-loop-turn
     -- loop-holds
     (λ c. omega arith)
     -- clashes-requires
@@ -35,12 +35,10 @@ soon_clashes_spec =
     (λ c. search rules)
     -- still-left-requires
     (λ c κs.
-    let after_unit = c.before.before.before in let at_loop = after_unit.before.before.before.before in
-    let start = at_loop.before.before in
-    let n = start.args.layout.terms in
-    let s = path_of at_loop.loop.t in
-    let h = handed_on n s _ _ c.before.k.given.1 after_unit.unit.ensures in
-    (start.requires, applies_by n s _ _ _ h.0, h.1, h.2, h.3))
+    let n = c.args.layout.terms in
+    let s = path_of c.loop-turn.t in
+    let h = handed_on n s _ _ c.in-Apply.is c.unit.ensures in
+    (c.requires, applies_by n s _ _ _ h.0, h.1, h.2, h.3))
     -- returns-3
     (λ c. search rules)
     -- returns-4

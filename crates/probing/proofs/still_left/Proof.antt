@@ -5,18 +5,18 @@ use borrow.Author.Rules.{rules}
 use Rattle.probing.proofs.still_left.Statement.{statement}
 use Rattle.probing.proofs.still_left.Tie as tie
 
-abbrev invariant-loop : tie.invariant-loop
-invariant-loop query layout s k rule x y z n total left₀ i₀ left i = i ≤ total
+abbrev invariant-loop-i : tie.invariant-loop-i
+invariant-loop-i query layout s k rule x y z n total left₀ i₀ left i = i ≤ total
 
-abbrev decreases-loop : tie.decreases-loop
-decreases-loop query layout s k rule x y z n total left₀ i₀ left i = total - i
+abbrev decreases-loop-i : tie.decreases-loop-i
+decreases-loop-i query layout s k rule x y z n total left₀ i₀ left i = total - i
 
 pub still_left_spec : {M : Type 1} → statement M
 still_left_spec =
     tie.close
     (tie.spec
-    invariant-loop
-    decreases-loop
+    invariant-loop-i
+    decreases-loop-i
     -- count-requires
     (λ c κs. search rules)
     -- loop-holds

@@ -19,4 +19,4 @@ taken_spec =
     -- close-requires
     (λ c κs. search rules)
     -- returns
-    (λ c. (closes_made _ _ _ _ c.before.before.branch.ensures c.close.ensures.0, c.close.ensures.1)))
+    (λ c. (closes_made _ _ _ _ c.branch-joined.ensures c.close.ensures.0, c.close.ensures.1)))

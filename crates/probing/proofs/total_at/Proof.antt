@@ -8,29 +8,18 @@ use Rattle.units.proofs.Places.{lowest_in, total-found}
 use Rattle.probing.proofs.total_at.Statement.{statement}
 use Rattle.probing.proofs.total_at.Tie as tie
 
-abbrev invariant-loop : tie.invariant-loop
-invariant-loop query layout s k reach back y from near z₀ z = z ≤ 17
+abbrev invariant-loop-z : tie.invariant-loop-z
+invariant-loop-z query layout s k reach back y from near z₀ z = z ≤ 17
 
-abbrev decreases-loop : tie.decreases-loop
-decreases-loop query layout s k reach back y from near z₀ z = 17 - z
-
--- The places that lie behind a place.
-
-abbrev then2_of_lowest : tie.After-lowest invariant-loop decreases-loop → tie.Then2 invariant-loop decreases-loop
-then2_of_lowest c = c.before.before
-
-abbrev lowest_of_x : tie.After-x invariant-loop decreases-loop → tie.After-lowest invariant-loop decreases-loop
-lowest_of_x c = c.before.before
-
-abbrev start_of_has : tie.After-has invariant-loop decreases-loop → tie.Start invariant-loop decreases-loop
-start_of_has c = c.before.before.before.before.before.before.before
+abbrev decreases-loop-z : tie.decreases-loop-z
+decreases-loop-z query layout s k reach back y from near z₀ z = 17 - z
 
 pub total_at_spec : {M : Type 1} → statement M
 total_at_spec =
     tie.close
     (tie.spec
-    invariant-loop
-    decreases-loop
+    invariant-loop-z
+    decreases-loop-z
     -- mul-from
     (λ c. omega arith)
     -- element-copy-out-from
@@ -53,14 +42,11 @@ total_at_spec =
     (λ c. search rules)
     -- some-soon-clashes-requires
     (λ c κs.
-    let after_lowest = lowest_of_x c.before in
-    let h = lowest_in _ _ c.before.x.given.1 _ after_lowest.lowest.ensures in let p = (start_of_has (then2_of_lowest after_lowest).before).pre in (p.0, p.1, h.0, p.2, omega arith))
+    let h = lowest_in _ _ c.in-At.is _ c.lowest.ensures in let p = c.requires in (p.0, p.1, h.0, p.2, omega arith))
     -- returns
     (λ c.
-    let after_x = c.before.before.before in let after_lowest = lowest_of_x after_x in let then2 = then2_of_lowest after_lowest in
-    let after_has = then2.before in let start = start_of_has after_has in
-    λ n link s k e. total-found n link start.args.reach.now s k e _ _ _ start.args.back.now start.pre.3 start.pre.2 (omega arith)
-    (sym after_has.has.ensures ∙ not-true _ then2.if2.taken) (lowest_in _ _ after_x.x.given.1 _ after_lowest.lowest.ensures))
+    λ n link s k e. total-found n link c.args.reach.now s k e _ _ _ c.args.back.now c.requires.3 c.requires.2 (omega arith)
+    (sym c.has.ensures ∙ c.if-not-has.true) (lowest_in _ _ c.in-At.is _ c.lowest.ensures))
     -- enum-told
     (λ c. search rules)
     -- add-z

@@ -10,6 +10,6 @@ entry_kind_spec =
     tie.close
     (tie.spec
     -- returns
-    (λ c. rw (eq-eqb _ _ c.if1.true))
+    (λ c. rw (eq-eqb _ _ c.if-links-eq1.true))
     -- returns-2
-    (λ c. rw (ne_eqb _ _ c.if1.false)))
+    (λ c. rw (ne_eqb _ _ c.if-links-eq1.false)))

@@ -17,152 +17,103 @@ use Rattle.query.proofs.Reading.{narrow, read_section, with_limit, Reached, at_f
 use Rattle.query.proofs.lay_out.Statement.{statement}
 use Rattle.query.proofs.lay_out.Tie as tie
 
--- The places that lie behind a place.
-
-abbrev known_told10_of_struct_known2 : tie.After-struct-known2 → tie.After-known-told10
-known_told10_of_struct_known2 c = c.before.before.before
-
-abbrev known_told10_of_struct_known3 : tie.After-struct-known3 → tie.After-known-told10
-known_told10_of_struct_known3 c = known_told10_of_struct_known2 c.before
-
-abbrev known_told10_of_struct_known4 : tie.After-struct-known4 → tie.After-known-told10
-known_told10_of_struct_known4 c = known_told10_of_struct_known3 c.before
-
-abbrev known_told10_of_struct_known5 : tie.After-struct-known5 → tie.After-known-told10
-known_told10_of_struct_known5 c = known_told10_of_struct_known4 c.before
-
 -- back from the place behind a section to the place behind the one before it
 
-abbrev back₂ : tie.After-known-told4 → tie.After-known-told2
-back₂ c = c.before.before.before.before
-
-abbrev back₃ : tie.After-known-told6 → tie.After-known-told4
-back₃ c = c.before.before.before.before
-
-abbrev back₄ : tie.After-known-told8 → tie.After-known-told6
-back₄ c = c.before.before.before.before
-
-abbrev back₅ : tie.After-known-told10 → tie.After-known-told8
-back₅ c = c.before.before.before.before
-
 -- the widths of sections 1 and 3
-entry_width : (w : tie.After-width2) → w.before.before.width.result ≡ width_of (entry_kind w.before.before.before.before.before.args.links)
-entry_width w = w.before.before.width.ensures ∙ ap width_of w.before.before.before.entry-kind.ensures
+entry_width : (w : tie.After-width-reach_width) → w.width-entry_width.result ≡ width_of (entry_kind w.args.links)
+entry_width w = w.width-entry_width.ensures ∙ ap width_of w.entry_kind.ensures
 
-reach_width : (w : tie.After-width2) → w.width2.result ≡ width_of (reach_kind w.before.before.before.before.before.args.links)
-reach_width w = w.width2.ensures ∙ ap width_of w.before.reach-kind.ensures
+reach_width : (w : tie.After-width-reach_width) → w.width-reach_width.result ≡ width_of (reach_kind w.args.links)
+reach_width w = w.width-reach_width.ensures ∙ ap width_of w.reach_kind.ensures
 
 -- Behind each section that was read: the bytes, the section, that it stands there, and where the walk has come to.
 
-abbrev widths₁ : tie.After-known-told2 → tie.After-width2
-widths₁ c = c.before.before.before.before
+abbrev bytes₁ : tie.In-Section → List ℕ
+bytes₁ c = c.args.query.now
 
-abbrev start₁ : tie.After-known-told2 → tie.Start
-start₁ c = (widths₁ c).before.before.before.before.before
+abbrev form₁ : tie.In-Section → Form
+form₁ c = let a = c.args in form_by a.links a.most a.excess
 
-abbrev bytes₁ : tie.After-known-told2 → List ℕ
-bytes₁ c = (start₁ c).args.query.now
+abbrev part₁ : tie.In-Section → Part
+part₁ c = c.in-Section.part
 
-abbrev form₁ : tie.After-known-told2 → Form
-form₁ c = let a = (start₁ c).args in form_by a.links a.most a.excess
+stands₁ : (c : tie.In-Section) → Stands (bytes₁ c) 16 (width_of (entry_kind c.args.links)) 0 (part₁ c).count (part₁ c).next
+stands₁ c = rw (entry_width c.before.before) at (read_section _ _ _ _ _ c.in-Section.is c.read_section.ensures)
 
-abbrev part₁ : tie.After-known-told2 → Part
-part₁ c = c.before.part.given.0.0
-
-stands₁ : (c : tie.After-known-told2) → Stands (bytes₁ c) 16 (width_of (entry_kind (start₁ c).args.links)) 0 (part₁ c).count (part₁ c).next
-stands₁ c = rw (entry_width (widths₁ c)) at (read_section _ _ _ _ _ c.before.part.given.1 c.before.before.before.read-section.ensures)
-
-reached₁ : (c : tie.After-known-told2) → Reached (form₁ c) (bytes₁ c) (drop 1 (form₁ c (first_byte (bytes₁ c)))) (part₁ c).next
+reached₁ : (c : tie.In-Section) → Reached (form₁ c) (bytes₁ c) (drop 1 (form₁ c (first_byte (bytes₁ c)))) (part₁ c).next
 unfolding form_by
 reached₁ c = beyond (at_front _ _) (stands₁ c)
 
-abbrev bytes₂ : tie.After-known-told4 → List ℕ
-bytes₂ c = bytes₁ (back₂ c)
+abbrev bytes₂ : tie.In-Section-read_section → List ℕ
+bytes₂ c = bytes₁ c.before.before
 
-abbrev form₂ : tie.After-known-told4 → Form
-form₂ c = form₁ (back₂ c)
+abbrev form₂ : tie.In-Section-read_section → Form
+form₂ c = form₁ c.before.before
 
-abbrev part₂ : tie.After-known-told4 → Part
-part₂ c = c.before.part2.given.0.0
+abbrev part₂ : tie.In-Section-read_section → Part
+part₂ c = c.in-Section-read_section.part
 
-stands₂ : (c : tie.After-known-told4) → Stands (bytes₂ c) 60 3 (part₁ (back₂ c)).next (part₂ c).count (part₂ c).next
-stands₂ c = read_section _ _ _ _ _ c.before.part2.given.1 c.before.before.before.read-section2.ensures
+stands₂ : (c : tie.In-Section-read_section) → Stands (bytes₂ c) 60 3 (part₁ c.before.before).next (part₂ c).count (part₂ c).next
+stands₂ c = read_section _ _ _ _ _ c.in-Section-read_section.is c.read_section-2.ensures
 
-reached₂ : (c : tie.After-known-told4) → Reached (form₂ c) (bytes₂ c) (drop 2 (form₂ c (first_byte (bytes₂ c)))) (part₂ c).next
+reached₂ : (c : tie.In-Section-read_section) → Reached (form₂ c) (bytes₂ c) (drop 2 (form₂ c (first_byte (bytes₂ c)))) (part₂ c).next
 unfolding form_by
-reached₂ c = beyond (reached₁ (back₂ c)) (stands₂ c)
+reached₂ c = beyond (reached₁ c.before.before) (stands₂ c)
 
-abbrev widths₃ : tie.After-known-told6 → tie.After-width2
-widths₃ c = widths₁ c.before.before.before.before.before.before.before.before
+abbrev bytes₃ : tie.In-Section-read_section-2 → List ℕ
+bytes₃ c = bytes₂ c.before.before
 
-abbrev start₃ : tie.After-known-told6 → tie.Start
-start₃ c = start₁ (back₂ (back₃ c))
+abbrev form₃ : tie.In-Section-read_section-2 → Form
+form₃ c = form₂ c.before.before
 
-abbrev bytes₃ : tie.After-known-told6 → List ℕ
-bytes₃ c = bytes₂ (back₃ c)
+abbrev part₃ : tie.In-Section-read_section-2 → Part
+part₃ c = c.in-Section-read_section-2.part
 
-abbrev form₃ : tie.After-known-told6 → Form
-form₃ c = form₂ (back₃ c)
+stands₃ : (c : tie.In-Section-read_section-2) → Stands (bytes₃ c) 60 (width_of (reach_kind c.args.links)) (part₂ c.before.before).next (part₃ c).count (part₃ c).next
+stands₃ c = rw (reach_width c.before.before.before.before.before.before) at (read_section _ _ _ _ _ c.in-Section-read_section-2.is c.read_section-3.ensures)
 
-abbrev part₃ : tie.After-known-told6 → Part
-part₃ c = c.before.part3.given.0.0
-
-stands₃ : (c : tie.After-known-told6) → Stands (bytes₃ c) 60 (width_of (reach_kind (start₃ c).args.links)) (part₂ (back₃ c)).next (part₃ c).count (part₃ c).next
-stands₃ c = rw (reach_width (widths₃ c)) at (read_section _ _ _ _ _ c.before.part3.given.1 c.before.before.before.read-section3.ensures)
-
-reached₃ : (c : tie.After-known-told6) → Reached (form₃ c) (bytes₃ c) (drop 3 (form₃ c (first_byte (bytes₃ c)))) (part₃ c).next
+reached₃ : (c : tie.In-Section-read_section-2) → Reached (form₃ c) (bytes₃ c) (drop 3 (form₃ c (first_byte (bytes₃ c)))) (part₃ c).next
 unfolding form_by
-reached₃ c = beyond (reached₂ (back₃ c)) (stands₃ c)
+reached₃ c = beyond (reached₂ c.before.before) (stands₃ c)
 
-abbrev bytes₄ : tie.After-known-told8 → List ℕ
-bytes₄ c = bytes₃ (back₄ c)
+abbrev bytes₄ : tie.In-Section-read_section-3 → List ℕ
+bytes₄ c = bytes₃ c.before.before
 
-abbrev form₄ : tie.After-known-told8 → Form
-form₄ c = form₃ (back₄ c)
+abbrev form₄ : tie.In-Section-read_section-3 → Form
+form₄ c = form₃ c.before.before
 
-abbrev part₄ : tie.After-known-told8 → Part
-part₄ c = c.before.part4.given.0.0
+abbrev part₄ : tie.In-Section-read_section-3 → Part
+part₄ c = c.in-Section-read_section-3.part
 
-stands₄ : (c : tie.After-known-told8) → Stands (bytes₄ c) 60 3 (part₃ (back₄ c)).next (part₄ c).count (part₄ c).next
-stands₄ c = read_section _ _ _ _ _ c.before.part4.given.1 c.before.before.before.read-section4.ensures
+stands₄ : (c : tie.In-Section-read_section-3) → Stands (bytes₄ c) 60 3 (part₃ c.before.before).next (part₄ c).count (part₄ c).next
+stands₄ c = read_section _ _ _ _ _ c.in-Section-read_section-3.is c.read_section-4.ensures
 
-reached₄ : (c : tie.After-known-told8) → Reached (form₄ c) (bytes₄ c) (drop 4 (form₄ c (first_byte (bytes₄ c)))) (part₄ c).next
+reached₄ : (c : tie.In-Section-read_section-3) → Reached (form₄ c) (bytes₄ c) (drop 4 (form₄ c (first_byte (bytes₄ c)))) (part₄ c).next
 unfolding form_by
-reached₄ c = beyond (reached₃ (back₄ c)) (stands₄ c)
+reached₄ c = beyond (reached₃ c.before.before) (stands₄ c)
 
-abbrev bytes₅ : tie.After-known-told10 → List ℕ
-bytes₅ c = bytes₄ (back₅ c)
+abbrev bytes₅ : tie.In-Section-read_section-4 → List ℕ
+bytes₅ c = bytes₄ c.before.before
 
-abbrev form₅ : tie.After-known-told10 → Form
-form₅ c = form₄ (back₅ c)
+abbrev form₅ : tie.In-Section-read_section-4 → Form
+form₅ c = form₄ c.before.before
 
-abbrev part₅ : tie.After-known-told10 → Part
-part₅ c = c.before.part5.given.0.0
+abbrev part₅ : tie.In-Section-read_section-4 → Part
+part₅ c = c.in-Section-read_section-4.part
 
-stands₅ : (c : tie.After-known-told10) → Stands (bytes₅ c)
-    (start₁ (back₂ (back₃ (back₄ (back₅ c))))).args.most
-    2 (part₄ (back₅ c)).next (part₅ c).count (part₅ c).next
-stands₅ c = read_section _ _ _ _ _ c.before.part5.given.1 c.before.before.before.read-section5.ensures
+stands₅ : (c : tie.In-Section-read_section-4) → Stands (bytes₅ c)
+    c.args.most
+    2 (part₄ c.before.before).next (part₅ c).count (part₅ c).next
+stands₅ c = read_section _ _ _ _ _ c.in-Section-read_section-4.is c.read_section-5.ensures
 
-reached₅ : (c : tie.After-known-told10) → Reached (form₅ c) (bytes₅ c) (drop 5 (form₅ c (first_byte (bytes₅ c)))) (part₅ c).next
+reached₅ : (c : tie.In-Section-read_section-4) → Reached (form₅ c) (bytes₅ c) (drop 5 (form₅ c (first_byte (bytes₅ c)))) (part₅ c).next
 unfolding form_by
-reached₅ c = beyond (reached₄ (back₅ c)) (stands₅ c)
+reached₅ c = beyond (reached₄ c.before.before) (stands₅ c)
 
 -- from behind the fifth section to behind the others
-abbrev to₄ : tie.After-known-told10 → tie.After-known-told8
-to₄ c = back₅ c
 
-abbrev to₃ : tie.After-known-told10 → tie.After-known-told6
-to₃ c = back₄ (to₄ c)
-
-abbrev to₂ : tie.After-known-told10 → tie.After-known-told4
-to₂ c = back₃ (to₃ c)
-
-abbrev to₁ : tie.After-known-told10 → tie.After-known-told2
-to₁ c = back₂ (to₂ c)
-
-short : (c : tie.After-known-told2) → length (bytes₁ c) < 2 ^ 64
-short c = (start₁ c).well-formed.0.0
+short : (c : tie.In-Section) → length (bytes₁ c) < 2 ^ 64
+short c = c.well_formed.0.0
 
 -- the place behind a count
 fits_behind : {bytes : List ℕ} {limit width at count next : ℕ} → Stands bytes limit width at count next → length bytes < 2 ^ 64 → Fits w64 (at + 1)
@@ -190,84 +141,76 @@ lay_out_spec =
     -- enum-known-k
     (λ c. search rules)
     -- returns
-    (λ c. stopped (at_front _ _) c.before.k.given.1 (rw (entry_width c.before.before.before.before) at c.before.before.before.read-section.ensures))
+    (λ c. stopped (at_front _ _) c.in-Refused.is (rw (entry_width c.before.before) at c.read_section.ensures))
     -- enum-known-part
     (λ c. search rules)
     -- read-section-requires-2
-    (λ c κs. omega (arith, (stands₁ c).ranges))
+    (λ c κs. omega (arith, (stands₁ c).fits))
     -- enum-known-k-2
     (λ c. search rules)
     -- returns-2
     (λ c.
-    let after_read_section2 = c.before.before.before in
-    stopped (reached₁ after_read_section2.before) c.before.k2.given.1 after_read_section2.read-section2.ensures)
+    stopped (reached₁ c.before.before) c.in-Refused-read_section.is c.read_section-2.ensures)
     -- enum-known-part-2
     (λ c. search rules)
     -- read-section-requires-3
-    (λ c κs. ((stands₂ c).ranges, rw (reach_width (widths₁ c.before.before.before.before)) (narrow (reach_kind _))))
+    (λ c κs. ((stands₂ c).fits, rw (reach_width c.before.before.before.before) (narrow (reach_kind _))))
     -- enum-known-k-3
     (λ c. search rules)
     -- returns-3
-    (λ c. stopped (reached₂ c.before.before.before.before) c.before.k3.given.1
-    (rw (reach_width (widths₁ c.before.before.before.before.before.before.before.before)) at c.before.before.before.read-section3.ensures))
+    (λ c. stopped (reached₂ c.before.before) c.in-Refused-read_section-2.is
+    (rw (reach_width c.before.before.before.before.before.before) at c.read_section-3.ensures))
     -- enum-known-part-3
     (λ c. search rules)
     -- read-section-requires-4
-    (λ c κs. omega (arith, (stands₃ c).ranges))
+    (λ c κs. omega (arith, (stands₃ c).fits))
     -- enum-known-k-4
     (λ c. search rules)
     -- returns-4
     (λ c.
-    let after_read_section4 = c.before.before.before in
-    stopped (reached₃ after_read_section4.before) c.before.k4.given.1 after_read_section4.read-section4.ensures)
+    stopped (reached₃ c.before.before) c.in-Refused-read_section-3.is c.read_section-4.ensures)
     -- enum-known-part-4
     (λ c. search rules)
     -- read-section-requires-5
-    (λ c κs. omega (arith, (stands₄ c).ranges))
+    (λ c κs. omega (arith, (stands₄ c).fits))
     -- enum-known-k-5
     (λ c. search rules)
     -- returns-5
     (λ c.
-    let after_read_section5 = c.before.before.before in
-    stopped (reached₄ after_read_section5.before) c.before.k5.given.1 after_read_section5.read-section5.ensures)
+    stopped (reached₄ c.before.before) c.in-Refused-read_section-4.is c.read_section-5.ensures)
     -- enum-known-part-5
     (λ c. search rules)
     -- returns-6
-    (λ c. trailing (reached₅ c.before.before) c.if1.true)
+    (λ c. trailing (reached₅ c.before.before) c.if-boolean-query.true)
     -- add-t32
     (λ c.
-    let after_known_told10 = known_told10_of_struct_known2 c in
-    fits_behind (stands₂ (to₂ (after_known_told10))) (short (to₁ (after_known_told10))))
+    fits_behind (stands₂ c.before.before.before.before.before.before.before.before.before) (short c.before.before.before.before.before.before.before.before.before.before.before))
     -- add-t34
     (λ c.
-    let after_known_told10 = known_told10_of_struct_known3 c in
-    fits_behind (stands₃ (to₃ (after_known_told10))) (short (to₁ (after_known_told10))))
+    fits_behind (stands₃ c.before.before.before.before.before.before.before.before) (short c.before.before.before.before.before.before.before.before.before.before.before.before))
     -- add-t35
     (λ c.
-    let after_known_told10 = known_told10_of_struct_known4 c in
-    fits_behind (stands₄ (to₄ (after_known_told10))) (short (to₁ (after_known_told10))))
+    fits_behind (stands₄ c.before.before.before.before.before.before.before) (short c.before.before.before.before.before.before.before.before.before.before.before.before.before))
     -- add-t36
     (λ c.
-    let after_known_told10 = known_told10_of_struct_known5 c in
-    fits_behind (stands₅ (after_known_told10)) (short (to₁ (after_known_told10))))
+    fits_behind (stands₅ c.before.before.before.before.before.before) (short c.before.before.before.before.before.before.before.before.before.before.before.before.before.before))
     -- returns-7
-    (λ c.
-    let after_known_told10 = known_told10_of_struct_known5 c in (
+    (λ c. (
       record {
-        second = (part₁ (to₁ (after_known_told10))).next;
-        third = (part₂ (to₂ (after_known_told10))).next;
-        fourth = (part₃ (to₃ (after_known_told10))).next;
-        fifth = (part₄ (to₄ (after_known_told10))).next;
-        terms = stands₁ (to₁ (after_known_told10));
-        equalities = stands₂ (to₂ (after_known_told10));
-        reachability = stands₃ (to₃ (after_known_told10));
-        fields = stands₄ (to₄ (after_known_told10));
-        booleans = to_end (stands₅ (after_known_told10)) c.before.before.before.before.if1.false;
+        second = (part₁ c.before.before.before.before.before.before.before.before.before.before.before.before.before.before).next;
+        third = (part₂ c.before.before.before.before.before.before.before.before.before.before.before.before).next;
+        fourth = (part₃ c.before.before.before.before.before.before.before.before.before.before).next;
+        fifth = (part₄ c.before.before.before.before.before.before.before.before).next;
+        terms = stands₁ c.before.before.before.before.before.before.before.before.before.before.before.before.before.before;
+        equalities = stands₂ c.before.before.before.before.before.before.before.before.before.before.before.before;
+        reachability = stands₃ c.before.before.before.before.before.before.before.before.before.before;
+        fields = stands₄ c.before.before.before.before.before.before.before.before;
+        booleans = to_end (stands₅ c.before.before.before.before.before.before) c.if-boolean-query.false;
         equal_at = refl;
         reach_at = refl;
         field_at = refl;
         boolean_at = refl;
       },
-      (stands₅ (after_known_told10)).within,
+      (stands₅ c.before.before.before.before.before.before).within,
       refl,
     )))

@@ -10,11 +10,6 @@ use Rattle.query.proofs.Reading.{missing, above, short}
 use Rattle.query.proofs.read_section.Statement.{statement}
 use Rattle.query.proofs.read_section.Tie as tie
 
--- The places that lie behind a place.
-
-abbrev start_of_shared_slice_known : tie.After-shared-slice-known → tie.Start
-start_of_shared_slice_known c = c.before.before
-
 size_fits : {count width : ℕ} → count < 256 → width ≤ 4 → Fits w64 (count * width)
 size_fits h l = record { fits = omega (arith, mul-le-mul (le_of_lt h) l) }
 
@@ -23,15 +18,15 @@ read_section_spec =
     tie.close
     (tie.spec
     -- returns
-    (λ c s ss l x w. missing s ss _ _ c.if1.true)
+    (λ c s ss l x w. missing s ss _ _ c.if-at-len.true)
     -- shared-slice-read-count
     (λ c. search rules)
     -- cast-count
-    (λ c. omega (arith, c.shared-slice-known.given (start_of_shared_slice_known c).args.at))
+    (λ c. omega (arith, c.shared_slice_known-1.given c.args.at))
     -- returns-2
     (λ c s ss l x w. rw (← x) (above s ss _ _ (omega arith) (omega arith)))
     -- mul-size
-    (λ c. size_fits (omega (arith, c.before.shared-slice-known.given (start_of_shared_slice_known c.before).args.at)) (omega arith))
+    (λ c. size_fits (omega (arith, c.shared_slice_known-1.given c.args.at)) (omega arith))
     -- sub-left
     (λ c. search rules)
     -- sub-left-2

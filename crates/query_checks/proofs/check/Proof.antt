@@ -18,6 +18,6 @@ check_spec =
     -- enum-known-full
     (λ c. search rules)
     -- returns
-    (λ c. (rw c.before.k.given.1 at c.before.before.before.check-with.ensures) retired_number)
+    (λ c. (rw c.in-Refused.is at c.check_with.ensures) retired_number)
     -- returns-2
-    (λ c. let h = rw c.before.before.full.given.1 at c.before.before.before.before.check-with.ensures in (h.0, h.1.four)))
+    (λ c. let h = rw c.in-Accepted.is at c.check_with.ensures in (h.0, h.1.four)))

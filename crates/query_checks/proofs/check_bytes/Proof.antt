@@ -12,47 +12,38 @@ use Rattle.query_checks.proofs.Checks.{byte_answer, answer_some, answer_none, no
 use Rattle.query_checks.proofs.check_bytes.Statement.{statement}
 use Rattle.query_checks.proofs.check_bytes.Tie as tie
 
-abbrev invariant-loop : tie.invariant-loop
-invariant-loop query full k₀ k =
+abbrev invariant-loop-k : tie.invariant-loop-k
+invariant-loop-k query full k₀ k =
     (most excess : ℕ) → full.boolean_count ≤ most → (i : Input) → i.query ≡ query →
     refusal_of (form_checks (form_by full.layout.links most excess)) i ≡ first_of (byte_answer (form_by full.layout.links most excess) query) (from (9 - k) k)
 
-abbrev decreases-loop : tie.decreases-loop
-decreases-loop query full k₀ k = 9 - k
-
--- The places that lie behind a place.
-
-abbrev start_of_bytes_pass : tie.After-bytes-pass invariant-loop decreases-loop → tie.Start invariant-loop decreases-loop
-start_of_bytes_pass c = c.before.before
-
-abbrev byte_fault_of_enum_told : tie.After-enum-told invariant-loop decreases-loop → tie.After-byte-fault invariant-loop decreases-loop
-byte_fault_of_enum_told c = c.before.before
+abbrev decreases-loop-k : tie.decreases-loop-k
+decreases-loop-k query full k₀ k = 9 - k
 
 pub check_bytes_spec : {M : Type 1} → statement M
 check_bytes_spec =
     tie.close
     (tie.spec
-    invariant-loop
-    decreases-loop
+    invariant-loop-k
+    decreases-loop-k
     -- bytes-pass-requires
-    (λ c κs. c.before.requires)
+    (λ c κs. c.requires)
     -- returns
     (λ c most excess few. (
-      λ i q. byte_checks _ _ _ (laid_out _ _ (start_of_bytes_pass c.before).pre most excess few) i q
-          ∙ no_answer _ _ (c.before.bytes-pass.ensures most excess c.if1.true) _,
+      λ i q. byte_checks _ _ _ (laid_out _ _ c.requires most excess few) i q
+          ∙ no_answer _ _ (c.bytes_pass.ensures most excess c.if-bytes_pass.true) _,
       refl,
     ))
     -- loop-holds
-    (λ c most excess few. byte_checks _ _ _ (laid_out _ _ (start_of_bytes_pass c.before).pre most excess few))
+    (λ c most excess few. byte_checks _ _ _ (laid_out _ _ c.requires most excess few))
     -- byte-fault-requires
-    (λ c κs. (start_of_bytes_pass c.before.before.before).pre)
+    (λ c κs. c.requires)
     -- enum-known-place
     (λ c. search rules)
     -- returns-2
     (λ c most excess few i q.
-    let after_byte_fault = c.before.before.before in let in_loop = after_byte_fault.before in
-    in_loop.before.loop.invariant most excess few i q ∙ first_here _ _ _ _ in_loop.loop-test.true
-    (answer_some _ _ _ _ (sym (after_byte_fault.byte-fault.ensures most excess) ∙ ap found_of c.before.place.given.1)))
+    c.loop-k.invariant most excess few i q ∙ first_here _ _ _ _ c.loop-k-test.true
+    (answer_some _ _ _ _ (sym (c.byte_fault.ensures most excess) ∙ ap found_of c.in-At.is)))
     -- enum_told
     (λ c. search rules)
     -- add-k
@@ -61,8 +52,7 @@ check_bytes_spec =
     (λ c. omega arith)
     -- loop-again
     (λ c most excess few i q.
-    let after_byte_fault = byte_fault_of_enum_told c in let in_loop = after_byte_fault.before in
-    in_loop.before.loop.inv most excess few i q ∙ first_next _ _ _ in_loop.loop-test.taken
-    (answer_none _ _ _ (sym (after_byte_fault.byte-fault.ensures most excess) ∙ ap found_of c.enum_told.given.1)))
+    c.loop-k.invariant most excess few i q ∙ first_next _ _ _ c.loop-k-test.true
+    (answer_none _ _ _ (sym (c.byte_fault.ensures most excess) ∙ ap found_of c.in-Nothing.is)))
     -- returns-3
-    (λ c most excess few. (λ i q. c.before.loop.invariant most excess few i q ∙ first_end _ _ _ c.loop-test.false, refl)))
+    (λ c most excess few. (λ i q. c.loop-k.invariant most excess few i q ∙ first_end _ _ _ c.loop-k-test.false, refl)))

@@ -15,10 +15,10 @@ check_with_spec =
     -- enum-known-full
     (λ c. search rules)
     -- check-bytes-requires
-    (λ c κs. (rw c.before.full.given.1 at c.before.before.before.lay-out.ensures).0)
+    (λ c κs. (rw c.in-Accepted.is at c.lay_out.ensures).0)
     -- returns
-    (λ c. five_refused _ _ _ _ _ (rw c.before.k.given.1 at c.before.before.before.lay-out.ensures))
+    (λ c. five_refused _ _ _ _ _ (rw c.in-Refused.is at c.lay_out.ensures))
     -- returns-2
     (λ c.
-    let laid = rw c.before.before.full.given.1 at c.before.before.before.before.lay-out.ensures in
-    five_checked c.check-bytes.result _ _ _ c.before.before.before.before.before.before.args.excess laid.0 laid.1 laid.2 (c.check-bytes.ensures _ _ laid.1)))
+    let laid = rw c.in-Accepted.is at c.lay_out.ensures in
+    five_checked c.check_bytes.result _ _ _ c.args.excess laid.0 laid.1 laid.2 (c.check_bytes.ensures _ _ laid.1)))

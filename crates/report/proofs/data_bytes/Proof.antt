@@ -15,4 +15,4 @@ data_bytes_spec =
     -- row-bytes-requires
     (λ c κs. search rules)
     -- returns
-    (λ c. λ v h. c.row-bytes.ensures v h ∙ byte_alike _ _ 1 8 (λ j l r. c.before.before.mark-fields.ensures v j (omega arith) (omega arith))))
+    (λ c. λ v h. c.row_bytes.ensures v h ∙ byte_alike _ _ 1 8 (λ j l r. c.mark_fields-marks.ensures v j (omega arith) (omega arith))))

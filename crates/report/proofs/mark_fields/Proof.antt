@@ -13,47 +13,32 @@ use Rattle.report.proofs.Held.{FieldMarks, fields_none, fields_skip, fields_here
 use Rattle.report.proofs.mark_fields.Statement.{statement}
 use Rattle.report.proofs.mark_fields.Tie as tie
 
-abbrev invariant-loop : tie.invariant-loop
-invariant-loop query at count rep marks₀ i₀ marks i = (length marks ≡ 17) × FieldMarks (rep_of rep) (literal_in query at) count i marks
+abbrev invariant-loop-i : tie.invariant-loop-i
+invariant-loop-i query at count rep marks₀ i₀ marks i = (length marks ≡ 17) × FieldMarks (rep_of rep) (literal_in query at) count i marks
 
-abbrev decreases-loop : tie.decreases-loop
-decreases-loop query at count rep marks₀ i₀ marks i = count - i
-
--- The places that lie behind a place.
-
-abbrev field_of_read_rep : tie.After-read-rep invariant-loop decreases-loop → tie.After-field invariant-loop decreases-loop
-field_of_read_rep c = c.before.before
-
-abbrev start_of_at_loop : tie.At-loop invariant-loop decreases-loop → tie.Start invariant-loop decreases-loop
-start_of_at_loop c = c.before.before
-
-abbrev at_loop_of_sign : tie.After-sign invariant-loop decreases-loop → tie.At-loop invariant-loop decreases-loop
-at_loop_of_sign c = c.before.before
-
-abbrev at_loop_of_read_rep : tie.After-read-rep invariant-loop decreases-loop → tie.At-loop invariant-loop decreases-loop
-at_loop_of_read_rep c = at_loop_of_sign (field_of_read_rep c).before.before
+abbrev decreases-loop-i : tie.decreases-loop-i
+decreases-loop-i query at count rep marks₀ i₀ marks i = count - i
 
 -- the term that stands for a literal's
-stands_is : (c : tie.After-read-rep invariant-loop decreases-loop) →
-    c.read-rep.result.0 ≡ rep_of (start_of_at_loop (at_loop_of_read_rep c)).args.rep.now
-    (literal_in (start_of_at_loop (at_loop_of_read_rep c)).args.query.now (start_of_at_loop (at_loop_of_read_rep c)).args.at (at_loop_of_read_rep c).loop.i).right
-stands_is c = c.read-rep.ensures ∙ ap (rep_of _) c.before.right.ensures
+stands_is : (c : tie.After-read_rep-stands invariant-loop-i decreases-loop-i) →
+    c.read_rep-stands.result.0 ≡ rep_of c.args.rep.now
+    (literal_in c.args.query.now c.args.at c.loop-i.i).right
+stands_is c = c.read_rep-stands.ensures ∙ ap (rep_of _) c.right.ensures
 
-stands_within : (c : tie.After-read-rep invariant-loop decreases-loop) → c.read-rep.result.0 ≤ 16
+stands_within : (c : tie.After-read_rep-stands invariant-loop-i decreases-loop-i) → c.read_rep-stands.result.0 ≤ 16
 stands_within c =
-    let at_loop = at_loop_of_read_rep c in
-    omega (arith, stands_is c, ((start_of_at_loop at_loop).pre.1 at_loop.loop.i (omega arith)).2)
+    omega (arith, stands_is c, (c.requires.1 c.loop-i.i (omega arith)).2)
 
-returns : tie.Need-returns invariant-loop decreases-loop
+returns : tie.Need-returns invariant-loop-i decreases-loop-i
 unfolding literals_at listed
-returns c = fields_all _ _ _ _ _ (omega arith) c.before.loop.invariant.1
+returns c = fields_all _ _ _ _ _ (omega arith) c.loop-i.invariant.1
 
 pub mark_fields_spec : {M : Type 1} → statement M
 mark_fields_spec =
     tie.close
     (tie.spec
-    invariant-loop
-    decreases-loop
+    invariant-loop-i
+    decreases-loop-i
     -- loop-holds
     (λ c. (search rules, fields_none _ _ _))
     -- sign-requires
@@ -64,8 +49,7 @@ mark_fields_spec =
     (λ c. omega arith)
     -- loop-again
     (λ c.
-    let at_loop = at_loop_of_sign c.before in
-    (at_loop.loop.inv.0, fields_skip _ _ _ _ _ (omega arith) (sym c.before.sign.ensures ∙ not-true _ c.if1.true) at_loop.loop.inv.1))
+    (c.loop-i.invariant.0, fields_skip _ _ _ _ _ (omega arith) (sym c.sign.ensures ∙ c.if-not-sign.true) c.loop-i.invariant.1))
     -- field-requires
     (λ c κs. omega arith)
     -- right-requires
@@ -78,8 +62,7 @@ mark_fields_spec =
     (λ c. omega (arith, stands_within c))
     -- only-requires
     (λ c κs.
-    let at_loop = at_loop_of_read_rep c in
-    let r = (start_of_at_loop at_loop).pre.1 at_loop.loop.i (omega arith) in omega (arith, (field_of_read_rep c).field.ensures))
+    let r = c.requires.1 c.loop-i.i (omega arith) in omega (arith, c.field-field.ensures))
     -- mul-marks-2
     (λ c. omega (arith, stands_within c.before))
     -- array-write-marks
@@ -90,12 +73,10 @@ mark_fields_spec =
     (λ c. omega arith)
     -- loop-again-2
     (λ c.
-    let after_read_rep = c.before in let after_field = field_of_read_rep after_read_rep in let else1 = after_field.before in
-    let after_sign = else1.before in let at_loop = at_loop_of_sign after_sign in
-    let l = at_loop.loop in let r = (start_of_at_loop at_loop).pre.1 l.i (omega arith) in (
-      simp length-set l.inv.0,
-      fields_here _ _ _ l.i l.marks l.inv.0 (omega arith) (sym after_sign.sign.ensures ∙ not-false _ else1.if1.left) _ _ _
-          (stands_within (after_read_rep)) (omega (arith, after_field.field.ensures)) c.only.ensures (stands_is (after_read_rep))
-          after_field.field.ensures l.inv.1,
+    let l = c.loop-i in let r = c.requires.1 l.i (omega arith) in (
+      simp length-set l.invariant.0,
+      fields_here _ _ _ l.i l.marks l.invariant.0 (omega arith) (sym c.sign.ensures ∙ c.if-not-sign.false) _ _ _
+          (stands_within c.before) (omega (arith, c.field-field.ensures)) c.only.ensures (stands_is c.before)
+          c.field-field.ensures l.invariant.1,
     ))
     returns)

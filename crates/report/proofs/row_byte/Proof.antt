@@ -17,7 +17,6 @@ row_byte_spec =
     (λ c. search rules)
     -- cast-result
     (λ c.
-    let start = c.before in
-    record { fits = row_byte_small (get_or start.args.marks.now start.args.v 0 / 2 ^ 1) })
+    record { fits = row_byte_small (get_or c.args.marks.now c.args.v 0 / 2 ^ 1) })
     -- returns
     (λ c. row_byte_is _ _ (omega arith)))

@@ -9,11 +9,6 @@ use Rattle.completion.proofs.Completing.{shown-below}
 use Rattle.report.proofs.successor_bytes.Statement.{statement}
 use Rattle.report.proofs.successor_bytes.Tie as tie
 
--- The places that lie behind a place.
-
-abbrev start_of_links : tie.After-links → tie.Start
-start_of_links c = c.before.before
-
 pub successor_bytes_spec : {M : Type 1} → statement M
 successor_bytes_spec =
     tie.close
@@ -22,7 +17,6 @@ successor_bytes_spec =
     (λ c κs. search rules)
     -- nodes-linked-requires
     (λ c κs.
-    let start = start_of_links c in
-    (start.pre.0, λ t r. rw c.before.shown-links.ensures (omega (arith, shown-below start.args.n (path_of start.args.s) start.args.k.0 t))))
+    (c.requires.0, λ t r. rw c.shown_links-links.ensures (omega (arith, shown-below c.args.n (path_of c.args.s) c.args.k.0 t))))
     -- returns
-    (λ c. λ t h. c.nodes-linked.ensures t h ∙ ap (λ (f : ℕ → ℕ). node_of (start_of_links c.before).args.nodes.now (f t)) c.before.before.shown-links.ensures))
+    (λ c. λ t h. c.nodes_linked.ensures t h ∙ ap (λ (f : ℕ → ℕ). node_of c.args.nodes.now (f t)) c.shown_links-links.ensures))

@@ -30,17 +30,12 @@ write_sections_spec =
     (λ c. search rules)
     -- returns
     (λ c.
-    let after_put2 = c.before.before in let after_put = after_put2.before.before.before.before in
-    let after_put_node_section = after_put.before.before.before.before in
-    let after_put_term_section = after_put_node_section.before.before.before.before in
-    let after_put_successor_section = after_put_term_section.before.before.before.before in
-    let after_clear = after_put_successor_section.before.before.before.before in let start = after_clear.before.before.before in
-    let p = start.requires in
-    let a = start.args in
-    sections_written _ after_clear.clear.new.0 after_put_successor_section.put-successor-section.new.0
-    after_put_term_section.put-term-section.new.0 after_put_node_section.put-node-section.new.0 after_put.put.new.0 after_put2.put2.new.0
+    let p = c.requires in
+    let a = c.args in
+    sections_written _ c.clear.new.buffer c.put_successor_section-second.new.buffer
+    c.put_term_section-third.new.buffer c.put_node_section-fourth.new.buffer c.put-last.new.buffer c.put.new.buffer
     _ _ _ (marked a.marks.now a.n) (all_successors a.n (path_of a.s) (marked a.marks.now a.n)) (λ t. get_or a.places.now t 0) (λ t. get_or a.fields.now t 0) _ _ _ _
-    p.2 (ap (λ (k : ℕ). (path_of a.s).links * k) p.2 ∙ sym (successors_counted a.n (path_of a.s) (marked a.marks.now a.n))) after_clear.clear.ensures
-    after_put_successor_section.put-successor-section.auto.0 after_put_term_section.put-term-section.auto.0 after_put_node_section.put-node-section.auto.0 after_put.put.auto.0
-    after_put_successor_section.put-successor-section.ensures after_put_term_section.put-term-section.ensures
-    after_put_node_section.put-node-section.ensures after_put.put.ensures after_put2.put2.ensures.1))
+    p.2 (ap (λ (k : ℕ). (path_of a.s).links * k) p.2 ∙ sym (successors_counted a.n (path_of a.s) (marked a.marks.now a.n))) c.clear.ensures
+    c.put_successor_section-second.auto.buffer c.put_term_section-third.auto.buffer c.put_node_section-fourth.auto.buffer c.put-last.auto.buffer
+    c.put_successor_section-second.ensures c.put_term_section-third.ensures
+    c.put_node_section-fourth.ensures c.put-last.ensures c.put.ensures.1))

@@ -11,35 +11,30 @@ use Rattle.report_reader.proofs.Laws.{no_node, is_node_lem}
 use Rattle.report_reader.proofs.all_nodes.Statement.{statement}
 use Rattle.report_reader.proofs.all_nodes.Tie as tie
 
-abbrev invariant-loop : tie.invariant-loop
-invariant-loop report m at end i₀ i =
+abbrev invariant-loop-i : tie.invariant-loop-i
+invariant-loop-i report m at end i₀ i =
     all (λ j. is_node m (get_or report j 0)) (from (end - i) i) ≡ all (λ j. is_node m (get_or report j 0)) (from (end - at) at)
 
-abbrev decreases-loop : tie.decreases-loop
-decreases-loop report m at end i₀ i = end - i
-
--- The places that lie behind a place.
-
-abbrev at_loop_of_byte_at : tie.After-byte-at invariant-loop decreases-loop → tie.At-loop invariant-loop decreases-loop
-at_loop_of_byte_at c = c.before.before
+abbrev decreases-loop-i : tie.decreases-loop-i
+decreases-loop-i report m at end i₀ i = end - i
 
 pub all_nodes_spec : {M : Type 1} → statement M
 all_nodes_spec =
     tie.close
     (tie.spec
-    invariant-loop
-    decreases-loop
+    invariant-loop-i
+    decreases-loop-i
     -- loop-holds
     (λ c. refl)
     -- byte-at-requires
     (λ c κs. search rules)
     -- returns
-    (λ c. sym (all_fails _ _ _ c.before.before.loop-test.true (no_node _ c.before.byte_at.ensures.0 c.if1.true)) ∙ (at_loop_of_byte_at c.before).loop.inv)
+    (λ c. sym (all_fails _ _ _ c.loop-i-test.true (no_node _ c.byte_at-v.ensures.0 c.if-v-m.true)) ∙ c.loop-i.invariant)
     -- add-i
     (λ c. omega arith)
     -- loop-less
     (λ c. omega arith)
     -- loop-again
-    (λ c. sym (all_next _ _ _ c.before.before.loop-test.true (is_node_lem _ c.before.byte_at.ensures.0 c.if1.false)) ∙ (at_loop_of_byte_at c.before).loop.inv)
+    (λ c. sym (all_next _ _ _ c.loop-i-test.true (is_node_lem _ c.byte_at-v.ensures.0 c.if-v-m.false)) ∙ c.loop-i.invariant)
     -- returns-2
-    (λ c. sym (all_end _ _ _ c.loop-test.false) ∙ c.before.loop.invariant))
+    (λ c. sym (all_end _ _ _ c.loop-i-test.false) ∙ c.loop-i.invariant))

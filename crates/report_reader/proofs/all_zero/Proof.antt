@@ -11,35 +11,30 @@ use Rattle.rows.proofs.Loops.{all_end, all_fails, all_next}
 use Rattle.report_reader.proofs.all_zero.Statement.{statement}
 use Rattle.report_reader.proofs.all_zero.Tie as tie
 
-abbrev invariant-loop : tie.invariant-loop
-invariant-loop report at i₀ i =
+abbrev invariant-loop-i : tie.invariant-loop-i
+invariant-loop-i report at i₀ i =
     all (λ j. eqb (get_or report j 0) 0) (from (length report - i) i) ≡ all (λ j. eqb (get_or report j 0) 0) (from (length report - at) at)
 
-abbrev decreases-loop : tie.decreases-loop
-decreases-loop report at i₀ i = length report - i
-
--- The places that lie behind a place.
-
-abbrev at_loop_of_byte_at : tie.After-byte-at invariant-loop decreases-loop → tie.At-loop invariant-loop decreases-loop
-at_loop_of_byte_at c = c.before.before
+abbrev decreases-loop-i : tie.decreases-loop-i
+decreases-loop-i report at i₀ i = length report - i
 
 pub all_zero_spec : {M : Type 1} → statement M
 all_zero_spec =
     tie.close
     (tie.spec
-    invariant-loop
-    decreases-loop
+    invariant-loop-i
+    decreases-loop-i
     -- loop-holds
     (λ c. refl)
     -- byte-at-requires
     (λ c κs. search rules)
     -- returns
-    (λ c. sym (all_fails _ _ _ c.before.before.loop-test.true (ne_eqb _ 0 (λ e. c.if1.true (c.before.byte_at.ensures.0 ∙ e)))) ∙ (at_loop_of_byte_at c.before).loop.inv)
+    (λ c. sym (all_fails _ _ _ c.loop-i-test.true (ne_eqb _ 0 (λ e. c.if-byte_at-ne0.true (c.byte_at.ensures.0 ∙ e)))) ∙ c.loop-i.invariant)
     -- add-i
     (λ c. omega arith)
     -- loop-less
     (λ c. omega arith)
     -- loop-again
-    (λ c. sym (all_next _ _ _ c.before.before.loop-test.true (eq-eqb _ 0 (sym c.before.byte_at.ensures.0 ∙ c.if1.false))) ∙ (at_loop_of_byte_at c.before).loop.inv)
+    (λ c. sym (all_next _ _ _ c.loop-i-test.true (eq-eqb _ 0 (sym c.byte_at.ensures.0 ∙ c.if-byte_at-ne0.false))) ∙ c.loop-i.invariant)
     -- returns-2
-    (λ c. sym (all_end _ _ _ c.loop-test.false) ∙ c.before.loop.invariant))
+    (λ c. sym (all_end _ _ _ c.loop-i-test.false) ∙ c.loop-i.invariant))

@@ -7,16 +7,10 @@ use Rattle.drawing.specs.Text.{booleans_in}
 use Rattle.report_reader.proofs.booleans_in.Statement.{statement}
 use Rattle.report_reader.proofs.booleans_in.Tie as tie
 
--- The places that lie behind a place.
-
-abbrev size_in_of_byte_at : tie.After-byte-at → tie.After-size-in
-size_in_of_byte_at c = c.before.before
-
 returns : tie.Need-returns
 unfolding booleans_in
 returns c =
-    let after_size_in = size_in_of_byte_at c in
-    c.byte_at.ensures.0 ∙ ap₂ (λ (m n : ℕ). get_or after_size_in.before.before.args.report.now (m + n + m + 4) 0) after_size_in.size_in.ensures.0 c.before.count-in.ensures.0
+    c.byte_at.ensures.0 ∙ ap₂ (λ (m n : ℕ). get_or c.args.report.now (m + n + m + 4) 0) c.size_in-m.ensures.0 c.count_in.ensures.0
 
 pub booleans_in_spec : {M : Type 1} → statement M
 booleans_in_spec =

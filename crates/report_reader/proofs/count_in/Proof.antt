@@ -9,7 +9,7 @@ use Rattle.report_reader.proofs.count_in.Tie as tie
 
 returns : tie.Need-returns
 unfolding count_in
-returns c = (c.byte_at.ensures.0 ∙ ap (λ (k : ℕ). get_or c.before.before.before.args.report.now (k + 1) 0) c.before.size_in.ensures.0, c.byte_at.ensures.1)
+returns c = (c.byte_at.ensures.0 ∙ ap (λ (k : ℕ). get_or c.args.report.now (k + 1) 0) c.size_in.ensures.0, c.byte_at.ensures.1)
 
 pub count_in_spec : {M : Type 1} → statement M
 count_in_spec =

@@ -4,11 +4,6 @@ use Rattle.report_reader.proofs.Laws.{formed_test}
 use Rattle.report_reader.proofs.is_well_formed.Statement.{statement}
 use Rattle.report_reader.proofs.is_well_formed.Tie as tie
 
--- The places that lie behind a place.
-
-abbrev all_nodes_of_all_zero : tie.After-all-zero → tie.After-all-nodes
-all_nodes_of_all_zero c = c.before.before
-
 pub is_well_formed_spec : {M : Type 1} → statement M
 is_well_formed_spec =
     tie.close
@@ -53,8 +48,6 @@ is_well_formed_spec =
     (λ c κs. search rules)
     -- returns
     (λ c.
-    let after_all_nodes = all_nodes_of_all_zero c in let after_byte_at2 = after_all_nodes.before in
-    let after_byte_at = after_byte_at2.before in let after_count_in = after_byte_at.before in
-    formed_test _ _ _ _ _ _ _ _ after_count_in.before.size_in.ensures.0 after_count_in.count-in.ensures.0
-    after_byte_at.byte_at.ensures.0 after_byte_at2.byte-at2.ensures.0 after_all_nodes.all_nodes.ensures c.before.all-nodes2.ensures
-    c.all-zero.ensures))
+    formed_test _ _ _ _ _ _ _ _ c.size_in-m.ensures.0 c.count_in-n.ensures.0
+    c.byte_at-third.ensures.0 c.byte_at-fourth.ensures.0 c.all_nodes-linked.ensures c.all_nodes-named.ensures
+    c.all_zero-blank.ensures))

@@ -7,16 +7,10 @@ use Rattle.logic.specs.Shown.{node_in}
 use Rattle.report_reader.proofs.node_in.Statement.{statement}
 use Rattle.report_reader.proofs.node_in.Tie as tie
 
--- The places that lie behind a place.
-
-abbrev size_in_of_byte_at : tie.After-byte-at → tie.After-size-in
-size_in_of_byte_at c = c.before.before
-
 returns : tie.Need-returns
 unfolding node_in
 returns c =
-    let after_size_in = size_in_of_byte_at c in let the_start = after_size_in.before.before in
-    c.byte_at.ensures.0 ∙ ap (λ (k : ℕ). get_or the_start.args.report.now (k + 1 + the_start.args.t.0) 0) after_size_in.size_in.ensures.0
+    c.byte_at.ensures.0 ∙ ap (λ (k : ℕ). get_or c.args.report.now (k + 1 + c.args.t.0) 0) c.size_in.ensures.0
 
 pub node_in_spec : {M : Type 1} → statement M
 node_in_spec =

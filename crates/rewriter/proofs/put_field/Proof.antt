@@ -4,11 +4,6 @@ use Rattle.text.proofs.Writing.{writes_then}
 use Rattle.rewriter.proofs.put_field.Statement.{statement}
 use Rattle.rewriter.proofs.put_field.Tie as tie
 
--- The places that lie behind a place.
-
-abbrev put_byte3_of_slice_known4 : tie.After-slice-known4 → tie.After-put-byte3
-put_byte3_of_slice_known4 c = c.before.before
-
 pub put_field_spec : {M : Type 1} → statement M
 put_field_spec =
     tie.close
@@ -23,5 +18,4 @@ put_field_spec =
     (λ c. search rules)
     -- returns
     (λ c.
-    let after_put_byte3 = put_byte3_of_slice_known4 c in let after_put_byte2 = after_put_byte3.before.before.before.before in
-    writes_then after_put_byte2.before.before.before.before.put_byte.ensures (writes_then after_put_byte2.put-byte2.ensures after_put_byte3.put-byte3.ensures)))
+    writes_then c.put_byte-left.ensures (writes_then c.put_byte-right.ensures c.put_byte.ensures)))

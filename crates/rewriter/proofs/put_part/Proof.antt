@@ -20,4 +20,4 @@ put_part_spec =
     -- same-length
     (λ c. search rules)
     -- returns
-    (λ c. c.before.before.put-bytes.ensures))
+    (λ c. c.put_bytes.ensures))

@@ -10,14 +10,14 @@ base_node_spec =
     tie.close
     (tie.spec
     -- returns
-    (λ c. (base_null _ _ _ c.if1.true, omega arith))
+    (λ c. (base_null _ _ _ c.if-base-eq0.true, omega arith))
     -- sub-variable-of
     (λ c. omega arith)
     -- variable-of-requires
     (λ c κs. search rules)
     -- returns-2
-    (λ c. (base_variable _ _ _ _ c.before.before.if1.false c.before.if2.true c.variable-of.ensures.0, c.variable-of.ensures.1))
+    (λ c. (base_variable _ _ _ _ c.if-base-eq0.false c.if-base-lt64.true c.variable_of.ensures.0, c.variable_of.ensures.1))
     -- bound-node-requires
     (λ c κs. search rules)
     -- returns-3
-    (λ c. (base_bound _ _ _ _ c.before.before.if1.false c.before.if2.false c.bound-node.ensures.0, c.bound-node.ensures.1)))
+    (λ c. (base_bound _ _ _ _ c.if-base-eq0.false c.if-base-lt64.false c.bound_node.ensures.0, c.bound_node.ensures.1)))

@@ -17,6 +17,6 @@ bound_node_spec =
     -- node-at-requires
     (λ c κs. search rules)
     -- returns
-    (λ c. (c.node_at.ensures.0 ∙ bound_here _ _ _ c.before.if1.true, c.node_at.ensures.1))
+    (λ c. (c.node_at.ensures.0 ∙ bound_here _ _ _ c.if-i-d.true, c.node_at.ensures.1))
     -- returns-2
-    (λ c. (bound_none _ _ _ c.if1.false, omega arith)))
+    (λ c. (bound_none _ _ _ c.if-i-d.false, omega arith)))

@@ -13,6 +13,6 @@ holds_spec =
     -- holds-part-requires
     (λ c κs. search rules)
     -- returns
-    (λ c. whole_here _ _ _ _ _ c.before.before.before.if1.true (none_bound _ _ _ _ c.before.holds-part.ensures.1))
+    (λ c. whole_here _ _ _ _ _ c.if-i-lt3072.true (none_bound _ _ _ _ c.holds_part.ensures.1))
     -- returns-2
-    (λ c. whole_none _ _ _ _ c.if1.false))
+    (λ c. whole_none _ _ _ _ c.if-i-lt3072.false))

@@ -8,10 +8,10 @@ joined_spec =
     tie.close
     (tie.spec
     -- returns
-    (λ c. truth_and _ _ _ c.if1.true)
+    (λ c. truth_and _ _ _ c.if-kind-eq8.true)
     -- returns-2
-    (λ c. truth_or _ _ _ c.if2.true)
+    (λ c. truth_or _ _ _ c.if-kind-eq9.true)
     -- returns-3
-    (λ c. truth_implies _ _ _ c.if3.true)
+    (λ c. truth_implies _ _ _ c.if-kind-eq10.true)
     -- returns-4
-    (λ c. truth_same _ _ _ c.before.before.if1.false c.before.if2.false c.if3.false))
+    (λ c. truth_same _ _ _ c.if-kind-eq8.false c.if-kind-eq9.false c.if-kind-eq10.false))

@@ -10,9 +10,8 @@ part_node_spec =
     (tie.spec
     -- part-cell-requires
     (λ c κs.
-    let c3 = c.before.before.before in
-    (omega (arith, c3.requires.0), omega (arith, c3.requires.1)))
+    (omega (arith, c.requires.0), omega (arith, c.requires.1)))
     -- term-node-requires
-    (λ c κs. c.part-cell.ensures.1)
+    (λ c κs. c.part_cell-p.ensures.1)
     -- returns
-    (λ c. (node-at_same _ _ _ _ _ _ c.before.part-cell.ensures.0 c.term_node.ensures.0, c.term_node.ensures.1)))
+    (λ c. (node-at_same _ _ _ _ _ _ c.part_cell-p.ensures.0 c.term_node.ensures.0, c.term_node.ensures.1)))

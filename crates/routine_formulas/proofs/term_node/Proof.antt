@@ -12,19 +12,19 @@ use Rattle.routine_formulas.proofs.Terms.{term_begin, follow_done, follow_next, 
 use Rattle.routine_formulas.proofs.term_node.Statement.{statement}
 use Rattle.routine_formulas.proofs.term_node.Tie as tie
 
-abbrev invariant-loop : tie.invariant-loop
-invariant-loop table state bound d p v₀ at₀ v at =
+abbrev invariant-loop-at : tie.invariant-loop-at
+invariant-loop-at table state bound d p v₀ at₀ v at =
     (v ≤ 31) × (node (state_in state) (bound_in bound d) (term_of table p) ≡ follow (state_in state) (links_of (drop at table)) v)
 
-abbrev decreases-loop : tie.decreases-loop
-decreases-loop table state bound d p v₀ at₀ v at = length table - at
+abbrev decreases-loop-at : tie.decreases-loop-at
+decreases-loop-at table state bound d p v₀ at₀ v at = length table - at
 
 pub term_node_spec : {M : Type 1} → statement M
 term_node_spec =
     tie.close
     (tie.spec
-    invariant-loop
-    decreases-loop
+    invariant-loop-at
+    decreases-loop-at
     -- cell-requires
     (λ c κs. search rules)
     -- base-node-requires
@@ -32,13 +32,12 @@ term_node_spec =
     -- add-at
     (λ c. omega arith)
     -- loop-holds
-    (λ c. (c.base-node.ensures.1, term_begin _ _ _ _ _ _ c.before.cell.ensures.0 c.base-node.ensures.0))
+    (λ c. (c.base_node-v.ensures.1, term_begin _ _ _ _ _ _ c.cell.ensures.0 c.base_node-v.ensures.0))
     -- cell-requires-2
     (λ c κs. search rules)
     -- returns
     (λ c.
-    let c3 = c.before.before.before in
-    (sym (c3.loop.invariant.1 ∙ follow_done _ _ _ _ _ c.before.before.loop-test.true c.before.cell2.ensures.0 c.if1.true), c3.loop.invariant.0))
+    (sym (c.loop-at.invariant.1 ∙ follow_done _ _ _ _ _ c.loop-at-test.true c.cell-i.ensures.0 c.if-i-eq0.true), c.loop-at.invariant.0))
     -- link-of-requires
     (λ c κs. search rules)
     -- add-at-2
@@ -47,9 +46,9 @@ term_node_spec =
     (λ c. omega arith)
     -- loop-again
     (λ c. (
-      c.link-of.ensures.1,
-      c.before.before.before.before.loop.invariant.1 ∙ follow_next _ _ _ _ _ _ c.before.before.before.loop-test.true
-          c.before.before.cell2.ensures.0 c.before.if1.false c.link-of.ensures.0,
+      c.link_of-v.ensures.1,
+      c.loop-at.invariant.1 ∙ follow_next _ _ _ _ _ _ c.loop-at-test.true
+          c.cell-i.ensures.0 c.if-i-eq0.false c.link_of-v.ensures.0,
     ))
     -- returns-2
-    (λ c. (sym (c.before.loop.invariant.1 ∙ follow_end _ _ _ _ c.loop-test.false), c.before.loop.invariant.0)))
+    (λ c. (sym (c.loop-at.invariant.1 ∙ follow_end _ _ _ _ c.loop-at-test.false), c.loop-at.invariant.0)))

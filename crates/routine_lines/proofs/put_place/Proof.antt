@@ -14,18 +14,18 @@ put_place_spec =
     -- put-decimal-requires
     (λ c κs. search rules)
     -- put-byte-requires
-    (λ c κs. let l = decimal_machine c.before.before.before.before.before.before.args.line (omega arith) in
-    omega (arith, l, c.before.before.before.put-decimal.ensures.ends))
+    (λ c κs. let l = decimal_machine c.args.line (omega arith) in
+    omega (arith, l, c.put_decimal-to.ensures.ends))
     -- put-decimal-requires-2
-    (λ c κs. let l = decimal_machine c.before.before.before.before.before.before.before.before.before.before.args.line (omega arith) in
-    omega (arith, l, c.before.before.before.before.before.before.before.put-decimal.ensures.ends, c.before.before.before.put_byte.ensures.ends))
+    (λ c κs. let l = decimal_machine c.args.line (omega arith) in
+    omega (arith, l, c.put_decimal-to.ensures.ends, c.put_byte-to.ensures.ends))
     -- same-length
     (λ c. search rules)
     -- returns
-    (λ c. let s = c.before.before.before.before.before.before.before.before.before.before.before.before.before.args in
+    (λ c. let s = c.args in
     let l = decimal_machine s.line (omega arith) in
     let k = decimal_machine s.column (omega arith) in
-    let a = c.before.before.before.before.before.before.before.before.before.before.put-decimal.ensures in
-    let b = c.before.before.before.before.before.before.put_byte.ensures in
-    let d = c.before.before.put-decimal2.ensures in
+    let a = c.put_decimal-to.ensures in
+    let b = c.put_byte-to.ensures in
+    let d = c.put_decimal.ensures in
     (writes_as (place_words _ _) (writes_then a (writes_then b d)), omega (arith, l, k, a.ends, b.ends, d.ends))))

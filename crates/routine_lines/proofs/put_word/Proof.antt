@@ -12,45 +12,37 @@ put_word_spec =
     (tie.spec
     -- enum_told
     (λ c. search rules)
-    -- slice-aggregate-put-bytes
-    (λ c. search rules)
     -- put-bytes-requires
     (λ c κs. search rules)
     -- enum-told-2
-    (λ c. search rules)
-    -- slice-aggregate-put-bytes-2
     (λ c. search rules)
     -- put-bytes-requires-2
     (λ c κs. search rules)
     -- enum-told-3
     (λ c. search rules)
-    -- slice-aggregate-put-bytes-3
-    (λ c. search rules)
     -- put-bytes-requires-3
     (λ c κs. search rules)
     -- enum-told-4
     (λ c. search rules)
-    -- slice-aggregate-put-bytes-4
-    (λ c. search rules)
     -- put-bytes-requires-4
     (λ c κs. search rules)
     -- same-length
-    (λ c. writes_length c.before.before.put-bytes.ensures)
+    (λ c. writes_length c.put_bytes.ensures)
     -- returns
-    (λ c. let w = c.before.before.put-bytes.ensures in
-    (writes_as (word_text c.before.before.before.before.before.enum_told.given.1) w, omega (arith, w.ends)))
+    (λ c. let w = c.put_bytes.ensures in
+    (writes_as (word_text c.in-Text.is) w, omega (arith, w.ends)))
     -- same-length-2
-    (λ c. writes_length c.before.before.put-bytes2.ensures)
+    (λ c. writes_length c.put_bytes-in-Name.ensures)
     -- returns-2
-    (λ c. let w = c.before.before.put-bytes2.ensures in
-    (writes_as (word_name c.before.before.before.before.before.enum-told2.given.1) w, omega (arith, w.ends)))
+    (λ c. let w = c.put_bytes-in-Name.ensures in
+    (writes_as (word_name c.in-Name.is) w, omega (arith, w.ends)))
     -- same-length-3
-    (λ c. writes_length c.before.before.put-bytes3.ensures)
+    (λ c. writes_length c.put_bytes-in-Forall.ensures)
     -- returns-3
-    (λ c. let w = c.before.before.put-bytes3.ensures in
-    (writes_as (word_forall c.before.before.before.before.before.enum-told3.given.1) w, omega (arith, w.ends)))
+    (λ c. let w = c.put_bytes-in-Forall.ensures in
+    (writes_as (word_forall c.in-Forall.is) w, omega (arith, w.ends)))
     -- same-length-4
-    (λ c. writes_length c.before.before.put-bytes4.ensures)
+    (λ c. writes_length c.put_bytes-in-Limit.ensures)
     -- returns-4
-    (λ c. let w = c.before.before.put-bytes4.ensures in
-    (writes_as (word_limit c.before.before.before.before.before.enum-told4.given.1) w, omega (arith, w.ends))))
+    (λ c. let w = c.put_bytes-in-Limit.ensures in
+    (writes_as (word_limit c.in-Limit.is) w, omega (arith, w.ends))))

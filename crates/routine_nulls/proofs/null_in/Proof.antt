@@ -8,18 +8,18 @@ use Rattle.routine_nulls.proofs.Laws.{At, at_begin, at_next, null_done, null_her
 use Rattle.routine_nulls.proofs.null_in.Statement.{statement}
 use Rattle.routine_nulls.proofs.null_in.Tie as tie
 
-abbrev invariant-loop : tie.invariant-loop
-invariant-loop table state p v₀ k₀ at₀ v k at = At (state_in state) table p k at v × (k ≤ at)
+abbrev invariant-loop-at : tie.invariant-loop-at
+invariant-loop-at table state p v₀ k₀ at₀ v k at = At (state_in state) table p k at v × (k ≤ at)
 
-abbrev decreases-loop : tie.decreases-loop
-decreases-loop table state p v₀ k₀ at₀ v k at = length table - at
+abbrev decreases-loop-at : tie.decreases-loop-at
+decreases-loop-at table state p v₀ k₀ at₀ v k at = length table - at
 
 pub null_in_spec : {M : Type 1} → statement M
 null_in_spec =
     tie.close
     (tie.spec
-    invariant-loop
-    decreases-loop
+    invariant-loop-at
+    decreases-loop-at
     -- cell-requires
     (λ c κs. search rules)
     -- base-node-requires
@@ -27,29 +27,26 @@ null_in_spec =
     -- add-at
     (λ c. omega arith)
     -- loop-holds
-    (λ c. (at_begin _ _ _ _ _ c.before.before.before.before.args.state.now c.before.cell.ensures.0 c.base-node.ensures.0, omega arith))
+    (λ c. (at_begin _ _ _ _ _ c.args.state.now c.cell.ensures.0 c.base_node-v.ensures.0, omega arith))
     -- cell-requires-2
     (λ c κs. search rules)
     -- returns
-    (λ c. null_done _ _ _ _ _ _ _ c.before.before.before.loop.invariant.0 c.before.before.loop-test.true c.before.cell2.ensures.0 c.if1.true)
+    (λ c. null_done _ _ _ _ _ _ _ c.loop-at.invariant.0 c.loop-at-test.true c.cell-i.ensures.0 c.if-i-eq0.true)
     -- returns-2
     (λ c.
-    let c2 = c.before.before in
-    null_here _ _ _ _ _ _ _ c2.before.before.loop.invariant.0 c2.before.loop-test.true c2.cell2.ensures.0 c.before.if1.false c.if2.true)
+    null_here _ _ _ _ _ _ _ c.loop-at.invariant.0 c.loop-at-test.true c.cell-i.ensures.0 c.if-i-eq0.false c.if-v-eq1.true)
     -- link-of-requires
     (λ c κs. search rules)
     -- add-at-2
     (λ c. omega arith)
     -- add-k
-    (λ c. omega (arith, c.before.before.before.before.before.loop.invariant.1, c.before.before.before.before.loop-test.true))
+    (λ c. omega (arith, c.loop-at.invariant.1, c.loop-at-test.true))
     -- loop-less
     (λ c. omega arith)
     -- loop-again
-    (λ c.
-    let c5 = c.before.before.before.before.before in
-    let c3 = c.before.before.before in (
-      at_next _ _ _ _ _ _ _ c5.loop.invariant.0 c3.before.loop-test.true c3.cell2.ensures.0 c.before.before.if1.false _ c.before.if2.false c.link-of.ensures.0,
-      omega (arith, c5.loop.invariant.1),
+    (λ c. (
+      at_next _ _ _ _ _ _ _ c.loop-at.invariant.0 c.loop-at-test.true c.cell-i.ensures.0 c.if-i-eq0.false _ c.if-v-eq1.false c.link_of-v.ensures.0,
+      omega (arith, c.loop-at.invariant.1),
     ))
     -- returns-3
-    (λ c. null_end _ _ _ _ _ _ c.before.loop.invariant.0 c.loop-test.false))
+    (λ c. null_end _ _ _ _ _ _ c.loop-at.invariant.0 c.loop-at-test.false))

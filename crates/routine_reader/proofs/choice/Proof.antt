@@ -22,8 +22,8 @@ choice_spec =
     -- wide-requires
     (λ c κs. search rules)
     -- returns
-    (λ c. let s = c.before.before.before.args in
-    let e = ap (λ (l : List ℕ). get_or l (45 * s.rule + s.kind) 0) c.before.before.before.requires.1 in
-    c.wide.ensures ∙ e ∙ choice_in s.rule s.kind c.before.before.if1.true)
+    (λ c. let s = c.args in
+    let e = ap (λ (l : List ℕ). get_or l (45 * s.rule + s.kind) 0) c.requires.1 in
+    c.wide.ensures ∙ e ∙ choice_in s.rule s.kind c.if-rule-lt42.true)
     -- returns-2
-    (λ c. choice_out c.before.args.rule c.before.args.kind c.if1.false))
+    (λ c. choice_out c.args.rule c.args.kind c.if-rule-lt42.false))

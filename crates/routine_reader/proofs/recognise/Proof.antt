@@ -12,19 +12,19 @@ use Rattle.routine_reader.proofs.Going.{going_more, going_other, going_token, go
 use Rattle.routine_reader.proofs.recognise.Statement.{statement}
 use Rattle.routine_reader.proofs.recognise.Tie as tie
 
-abbrev invariant-loop : tie.invariant-loop
-invariant-loop text stack₀ rows choices height₀ t₀ left₀ stack height t left =
+abbrev invariant-loop-left : tie.invariant-loop-left
+invariant-loop-left text stack₀ rows choices height₀ t₀ left₀ stack height t left =
     (height ≤ length stack) × (height + 15 * left ≤ 15 * (25 + 25 * length text) + 1) × (length stack ≡ length stack₀) × Going text (stack_of stack height) t left
 
-abbrev decreases-loop : tie.decreases-loop
-decreases-loop text stack₀ rows choices height₀ t₀ left₀ stack height t left = left
+abbrev decreases-loop-left : tie.decreases-loop-left
+decreases-loop-left text stack₀ rows choices height₀ t₀ left₀ stack height t left = left
 
 pub recognise_spec : {M : Type 1} → statement M
 recognise_spec =
     tie.close
     (tie.spec
-    invariant-loop
-    decreases-loop
+    invariant-loop-left
+    decreases-loop-left
     -- returns
     (λ c. omega arith)
     -- slice-write-stack
@@ -36,125 +36,125 @@ recognise_spec =
     -- add-left
     (λ c. omega arith)
     -- loop-holds
-    (λ c. let s = c.before.before.before.before.args in
-    let g = going_first s.text.now s.stack.now (omega (arith, c.before.if1.false)) c.next-token.ensures in
-    (simp length-set (omega (arith, c.before.if1.false)), omega arith, refl, g))
+    (λ c. let s = c.args in
+    let g = going_first s.text.now s.stack.now (omega (arith, c.if-stack-lt17.false)) c.next_token-t.ensures in
+    (simp length-set (omega (arith, c.if-stack-lt17.false)), omega arith, refl, g))
     -- sub-left
     (λ c. omega arith)
     -- same-length
-    (λ c. let s = c.before.before.before.before.before.before.before.before.before.args.stack.now in
-    c.before.before.before.before.loop.invariant.2 ∙ length-set s 0 64)
+    (λ c. let s = c.args.stack.now in
+    c.loop-left.invariant.2 ∙ length-set s 0 64)
     -- returns-2
-    (λ c. let p = c.before.before.before.before.loop in
+    (λ c. let p = c.loop-left in
     let l = p.invariant in
-    let left = c.before.before.before.loop-test.true in
+    let left = c.loop-left-test.true in
     let g = going_suc l.3 left in
-    going_accepted (going_empty p.stack p.height g c.before.before.if2.true) c.if3.true)
+    going_accepted (going_empty p.stack p.height g c.if-height-eq0.true) c.if-t-eq0.true)
     -- same-length-2
-    (λ c. let s = c.before.before.before.before.before.before.before.before.before.args.stack.now in
-    c.before.before.before.before.loop.invariant.2 ∙ length-set s 0 64)
+    (λ c. let s = c.args.stack.now in
+    c.loop-left.invariant.2 ∙ length-set s 0 64)
     -- returns-3
-    (λ c. let p = c.before.before.before.before.loop in
+    (λ c. let p = c.loop-left in
     let l = p.invariant in
-    let left = c.before.before.before.loop-test.true in
+    let left = c.loop-left-test.true in
     let g = going_suc l.3 left in
-    going_more (going_empty p.stack p.height g c.before.before.if2.true) c.if3.false)
+    going_more (going_empty p.stack p.height g c.if-height-eq0.true) c.if-t-eq0.false)
     -- sub-height
-    (λ c. omega (arith, c.if2.false))
+    (λ c. omega (arith, c.if-height-eq0.false))
     -- slice-read-wide
-    (λ c. omega (arith, c.before.if2.false, c.before.before.before.loop.invariant.0))
+    (λ c. omega (arith, c.if-height-eq0.false, c.loop-left.invariant.0))
     -- wide-requires
     (λ c κs. search rules)
     -- same-length-3
-    (λ c. let s = c.before.before.before.before.before.before.before.before.before.before.before.before.args.stack.now in
-    c.before.before.before.before.before.before.before.loop.invariant.2 ∙ length-set s 0 64)
+    (λ c. let s = c.args.stack.now in
+    c.loop-left.invariant.2 ∙ length-set s 0 64)
     -- returns-4
-    (λ c. let p = c.before.before.before.before.before.before.before.loop in
+    (λ c. let p = c.loop-left in
     let l = p.invariant in
-    let left = c.before.before.before.before.before.before.loop-test.true in
+    let left = c.loop-left-test.true in
     let g = going_suc l.3 left in
-    let above = c.before.before.before.before.before.if2.false in
-    let top = going_top p.stack p.height g above c.before.before.before.wide.ensures in
-    going_other top c.before.before.if4.true c.if5.true)
+    let above = c.if-height-eq0.false in
+    let top = going_top p.stack p.height g above c.wide-top.ensures in
+    going_other top c.if-top-lt64.true c.if-top-t.true)
     -- next-token-requires-2
     (λ c κs. search rules)
     -- loop-less
     (λ c. omega arith)
     -- loop-again
-    (λ c. let p = c.before.before.before.before.before.before.before.before.loop in
+    (λ c. let p = c.loop-left in
     let l = p.invariant in
-    let left = c.before.before.before.before.before.before.before.loop-test.true in
+    let left = c.loop-left-test.true in
     let g = going_suc l.3 left in
-    let above = c.before.before.before.before.before.before.if2.false in
-    let top = going_top p.stack p.height g above c.before.before.before.before.wide.ensures in
-    let on = going_token top c.before.before.before.if4.true c.before.if5.false in
-    (omega (arith, l.0), omega (arith, l.1, left, above), l.2, going_same on refl c.next-token2.ensures))
+    let above = c.if-height-eq0.false in
+    let top = going_top p.stack p.height g above c.wide-top.ensures in
+    let on = going_token top c.if-top-lt64.true c.if-top-t.false in
+    (omega (arith, l.0), omega (arith, l.1, left, above), l.2, going_same on refl c.next_token-t-then-top-lt64.ensures))
     -- loop-less-2
     (λ c. omega arith)
     -- loop-again-2
-    (λ c. let p = c.before.before.before.before.before.before.loop in
+    (λ c. let p = c.loop-left in
     let l = p.invariant in
-    let left = c.before.before.before.before.before.loop-test.true in
+    let left = c.loop-left-test.true in
     let g = going_suc l.3 left in
-    let above = c.before.before.before.before.if2.false in
-    let top = going_top p.stack p.height g above c.before.before.wide.ensures in
-    (omega (arith, l.0), omega (arith, l.1, left, above), l.2, going_action top c.if6.true))
+    let above = c.if-height-eq0.false in
+    let top = going_top p.stack p.height g above c.wide-top.ensures in
+    (omega (arith, l.0), omega (arith, l.1, left, above), l.2, going_action top c.if-top-ge128.true))
     -- choice-requires
-    (λ c κs. let l = c.before.before.before.before.before.before.before.loop.invariant in
-    (going_below (going_suc l.3 c.before.before.before.before.before.before.loop-test.true), unfold choices in refl))
+    (λ c κs. let l = c.loop-left.invariant in
+    (going_below (going_suc l.3 c.loop-left-test.true), unfold choices in refl))
     -- same-length-4
-    (λ c. let s = c.before.before.before.before.before.before.before.before.before.before.before.before.before.before.args.stack.now in
-    c.before.before.before.before.before.before.before.before.before.loop.invariant.2 ∙ length-set s 0 64)
+    (λ c. let s = c.args.stack.now in
+    c.loop-left.invariant.2 ∙ length-set s 0 64)
     -- returns-5
-    (λ c. let p = c.before.before.before.before.before.before.before.before.before.loop in
+    (λ c. let p = c.loop-left in
     let l = p.invariant in
-    let left = c.before.before.before.before.before.before.before.before.loop-test.true in
+    let left = c.loop-left-test.true in
     let g = going_suc l.3 left in
-    let above = c.before.before.before.before.before.before.before.if2.false in
-    let top = going_top p.stack p.height g above c.before.before.before.before.before.wide.ensures in
-    let o = sym c.before.choice.ensures ∙ c.if7.true in
-    going_none top c.before.before.before.before.if4.false c.before.before.before.if6.false o)
+    let above = c.if-height-eq0.false in
+    let top = going_top p.stack p.height g above c.wide-top.ensures in
+    let o = sym c.choice-j.ensures ∙ c.if-j-eq0.true in
+    going_none top c.if-top-lt64.false c.if-top-ge128.false o)
     -- add-if8
-    (λ c. let l = c.before.before.before.before.before.before.before.before.before.loop.invariant.1 in
-    omega (arith, l, c.before.before.before.before.before.before.before.before.before.before.before.before.before.before.requires))
+    (λ c. let l = c.loop-left.invariant.1 in
+    omega (arith, l, c.requires))
     -- same-length-5
-    (λ c. let s = c.before.before.before.before.before.before.before.before.before.before.before.before.before.before.before.args.stack.now in
-    c.before.before.before.before.before.before.before.before.before.before.loop.invariant.2 ∙ length-set s 0 64)
+    (λ c. let s = c.args.stack.now in
+    c.loop-left.invariant.2 ∙ length-set s 0 64)
     -- returns-6
-    (λ c. let s = c.before.before.before.before.before.before.before.before.before.before.before.before.before.before.before.args in
-    let l = c.before.before.before.before.before.before.before.before.before.before.loop.invariant in
+    (λ c. let s = c.args in
+    let l = c.loop-left.invariant in
     let e = length-set s.stack.now 0 64 in
-    let short = c.if8.true in
-    omega (arith, short, l.1, l.2, e, c.before.before.before.before.before.before.before.before.if2.false, moves_are (length s.text.now)))
+    let short = c.if-stack-height.true in
+    omega (arith, short, l.1, l.2, e, c.if-height-eq0.false, moves_are (length s.text.now)))
     -- sub-push-row
-    (λ c. omega (arith, c.before.before.before.if7.false))
+    (λ c. omega (arith, c.if-j-eq0.false))
     -- push-row-requires
-    (λ c κs. let p = c.before.before.before.before.before.before.before.before.before.before.before.before.loop in
+    (λ c κs. let p = c.loop-left in
     let l = p.invariant in
-    let left = c.before.before.before.before.before.before.before.before.before.before.before.loop-test.true in
+    let left = c.loop-left-test.true in
     let g = going_suc l.3 left in
-    let above = c.before.before.before.before.before.before.before.before.before.before.if2.false in
-    let top = going_top p.stack p.height g above c.before.before.before.before.before.before.before.before.wide.ensures in
-    let o = sym c.before.before.before.before.choice.ensures ∙ one_more c.before.before.before.if7.false in
-    let j = going_below_94 top c.before.before.before.before.before.before.before.if4.false c.before.before.before.before.before.before.if6.false _ o in
-    (j, omega (arith, c.before.before.if8.false), unfold rows in refl))
+    let above = c.if-height-eq0.false in
+    let top = going_top p.stack p.height g above c.wide-top.ensures in
+    let o = sym c.choice-j.ensures ∙ one_more c.if-j-eq0.false in
+    let j = going_below_94 top c.if-top-lt64.false c.if-top-ge128.false _ o in
+    (j, omega (arith, c.if-stack-height.false), unfold rows in refl))
     -- loop-less-3
     (λ c. omega arith)
     -- loop-again-3
-    (λ c. let p = c.before.before.before.before.before.before.before.before.before.before.before.before.before.before.before.loop in
+    (λ c. let p = c.loop-left in
     let l = p.invariant in
-    let left = c.before.before.before.before.before.before.before.before.before.before.before.before.before.before.loop-test.true in
+    let left = c.loop-left-test.true in
     let g = going_suc l.3 left in
-    let above = c.before.before.before.before.before.before.before.before.before.before.before.before.before.if2.false in
-    let top = going_top p.stack p.height g above c.before.before.before.before.before.before.before.before.before.before.before.wide.ensures in
-    let o = sym c.before.before.before.before.before.before.before.choice.ensures ∙ one_more c.before.before.before.before.before.before.if7.false in
-    let q = c.before.before.push_row.ensures in
-    let low = c.before.before.before.before.before.before.before.before.before.before.if4.false in
-    let high = c.before.before.before.before.before.before.before.before.before.if6.false in
+    let above = c.if-height-eq0.false in
+    let top = going_top p.stack p.height g above c.wide-top.ensures in
+    let o = sym c.choice-j.ensures ∙ one_more c.if-j-eq0.false in
+    let q = c.push_row-height.ensures in
+    let low = c.if-top-lt64.false in
+    let high = c.if-top-ge128.false in
     let on = going_row top low high _ o in
-    (omega (arith, q.1, q.2, c.before.before.before.before.before.if8.false), omega (arith, q.1, l.1, left, above), q.2 ∙ l.2, going_same on q.0 refl))
+    (omega (arith, q.1, q.2, c.if-stack-height.false), omega (arith, q.1, l.1, left, above), q.2 ∙ l.2, going_same on q.0 refl))
     -- same-length-6
-    (λ c. let s = c.before.before.before.before.before.before.args.stack.now in
-    c.before.loop.invariant.2 ∙ length-set s 0 64)
+    (λ c. let s = c.args.stack.now in
+    c.loop-left.invariant.2 ∙ length-set s 0 64)
     -- returns-7
-    (λ c. recogniser_claims.recognised_ended _ (going_out c.before.loop.invariant.3 c.loop-test.false)))
+    (λ c. recogniser_claims.recognised_ended _ (going_out c.loop-left.invariant.3 c.loop-left-test.false)))

@@ -15,4 +15,4 @@ between_spec =
     -- step-count-requires-2
     (λ c κs. search rules)
     -- returns
-    (λ c. between_is _ _ _ _ _ _ _ _ c.before.before.type_size.ensures.0 c.before.step_count.ensures.0 c.step-count2.ensures.0))
+    (λ c. between_is _ _ _ _ _ _ _ _ c.size_of-n.ensures.0 c.step_count-middle.ensures.0 c.step_count-last.ensures.0))

@@ -12,9 +12,9 @@ flag_of_spec =
     tie.close
     (tie.spec
     -- returns
-    (λ c. flag_high _ _ _ c.if1.true)
+    (λ c. flag_high _ _ _ c.if-j-gt8.true)
     -- returns-2
-    (λ c. flag_far _ _ _ c.before.if1.false c.if2.true)
+    (λ c. flag_far _ _ _ c.if-j-gt8.false c.if-v-gt31.true)
     -- mul-byte-at
     (λ c. search rules)
     -- add-byte-at
@@ -24,4 +24,4 @@ flag_of_spec =
     -- byte-at-requires
     (λ c κs. search rules)
     -- returns-3
-    (λ c. ap (λ (x : ℕ). eqb x 1) c.byte_at.ensures.0 ∙ flag_here _ _ _ c.before.before.if1.false c.before.if2.false))
+    (λ c. ap (λ (x : ℕ). eqb x 1) c.byte_at.ensures.0 ∙ flag_here _ _ _ c.if-j-gt8.false c.if-v-gt31.false))

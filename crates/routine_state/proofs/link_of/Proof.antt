@@ -11,9 +11,9 @@ link_of_spec =
     tie.close
     (tie.spec
     -- returns
-    (λ c. (link_high _ _ _ c.if1.true, omega arith))
+    (λ c. (link_high _ _ _ c.if-i-gt3.true, omega arith))
     -- returns-2
-    (λ c. (link_far _ _ _ c.before.if1.false c.if2.true, omega arith))
+    (λ c. (link_far _ _ _ c.if-i-gt3.false c.if-v-gt31.true, omega arith))
     -- mul-node-at
     (λ c. search rules)
     -- add-node-at
@@ -21,4 +21,4 @@ link_of_spec =
     -- node-at-requires
     (λ c κs. search rules)
     -- returns-3
-    (λ c. (c.node_at.ensures.0 ∙ link_here _ _ _ c.before.before.if1.false c.before.if2.false, c.node_at.ensures.1)))
+    (λ c. (c.node_at.ensures.0 ∙ link_here _ _ _ c.if-i-gt3.false c.if-v-gt31.false, c.node_at.ensures.1)))

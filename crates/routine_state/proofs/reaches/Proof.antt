@@ -13,4 +13,4 @@ reaches_spec =
     -- step-count-requires
     (λ c κs. search rules)
     -- returns
-    (λ c. reaches_is _ _ _ _ _ _ c.before.type_size.ensures.0 c.step_count.ensures.0))
+    (λ c. reaches_is _ _ _ _ _ _ c.size_of-n.ensures.0 c.step_count.ensures.0))

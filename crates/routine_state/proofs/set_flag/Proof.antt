@@ -13,14 +13,14 @@ set_flag_spec =
     -- flag-byte-requires
     (λ c κs. search rules)
     -- mul-state
-    (λ c. omega (arith, c.before.before.requires.0))
+    (λ c. omega (arith, c.requires.0))
     -- add-state
-    (λ c. omega (arith, c.before.before.requires.0))
+    (λ c. omega (arith, c.requires.0))
     -- add-state-2
-    (λ c. omega (arith, c.before.before.requires.0, c.before.before.requires.1))
+    (λ c. omega (arith, c.requires.0, c.requires.1))
     -- slice-write-state
-    (λ c. omega (arith, c.before.before.requires.0, c.before.before.requires.1, c.before.before.requires.2))
+    (λ c. omega (arith, c.requires.0, c.requires.1, c.requires.2))
     -- same-length
     (λ c. simp length-set)
     -- returns
-    (λ c. (simp length-set, flag_set c.before.before.args.state.now c.before.before.requires.2 _ _ _ _ c.before.before.requires.0 c.before.before.requires.1 c.flag-byte.ensures)))
+    (λ c. (simp length-set, flag_set c.args.state.now c.requires.2 _ _ _ _ c.requires.0 c.requires.1 c.flag_byte.ensures)))

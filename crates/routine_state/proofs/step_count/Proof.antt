@@ -9,27 +9,26 @@ use Rattle.routine_state.proofs.Laws.{steps_whole, steps_begin, steps-here, step
 use Rattle.routine_state.proofs.step_count.Statement.{statement}
 use Rattle.routine_state.proofs.step_count.Tie as tie
 
-abbrev invariant-loop : tie.invariant-loop
-invariant-loop state i v w n at₀ k₀ at k = (k ≤ n) × (step_count (link_in state i) n v w ≡ k + step_count (link_in state i) (n - k) at w)
+abbrev invariant-loop-k : tie.invariant-loop-k
+invariant-loop-k state i v w n at₀ k₀ at k = (k ≤ n) × (step_count (link_in state i) n v w ≡ k + step_count (link_in state i) (n - k) at w)
 
-abbrev decreases-loop : tie.decreases-loop
-decreases-loop state i v w n at₀ k₀ at k = n - k
+abbrev decreases-loop-k : tie.decreases-loop-k
+decreases-loop-k state i v w n at₀ k₀ at k = n - k
 
 pub step_count_spec : {M : Type 1} → statement M
 step_count_spec =
     tie.close
     (tie.spec
-    invariant-loop
-    decreases-loop
+    invariant-loop-k
+    decreases-loop-k
     -- size-of-requires
     (λ c κs. search rules)
     -- loop-holds
     (λ c. (omega arith, steps_begin _ _ _ _))
     -- returns
-    (λ c.
-    let c3 = c.before.before.before in (
-      steps_whole _ _ _ _ _ _ c3.type_size.ensures.0 (c.before.before.loop.invariant.1 ∙ steps-here _ _ _ _ _ c.before.loop-test.true c.if1.true),
-      omega (arith, c3.type_size.ensures.1, c.before.loop-test.true),
+    (λ c. (
+      steps_whole _ _ _ _ _ _ c.size_of-n.ensures.0 (c.loop-k.invariant.1 ∙ steps-here _ _ _ _ _ c.loop-k-test.true c.if-at-w.true),
+      omega (arith, c.size_of-n.ensures.1, c.loop-k-test.true),
     ))
     -- link-of-requires
     (λ c κs. search rules)
@@ -39,12 +38,12 @@ step_count_spec =
     (λ c. omega arith)
     -- loop-again
     (λ c. (
-      omega (arith, c.before.before.loop-test.true),
-      c.before.before.before.loop.invariant.1 ∙ steps_next _ _ _ _ _ _ c.before.before.loop-test.true
-          c.before.if1.false c.link-of.ensures.0,
+      omega (arith, c.loop-k-test.true),
+      c.loop-k.invariant.1 ∙ steps_next _ _ _ _ _ _ c.loop-k-test.true
+          c.if-at-w.false c.link_of-at.ensures.0,
     ))
     -- returns-2
     (λ c. (
-      steps_whole _ _ _ _ _ _ c.before.before.type_size.ensures.0 (c.before.loop.invariant.1 ∙ steps_end _ _ _ _ _ c.loop-test.false c.before.loop.invariant.0),
-      c.before.before.type_size.ensures.1,
+      steps_whole _ _ _ _ _ _ c.size_of-n.ensures.0 (c.loop-k.invariant.1 ∙ steps_end _ _ _ _ _ c.loop-k-test.false c.loop-k.invariant.0),
+      c.size_of-n.ensures.1,
     )))

@@ -11,10 +11,10 @@ variable_of_spec =
     tie.close
     (tie.spec
     -- returns
-    (λ c. (variable_far _ _ c.if1.true, omega arith))
+    (λ c. (variable_far _ _ c.if-x-gt31.true, omega arith))
     -- add-node-at
     (λ c. search rules)
     -- node-at-requires
     (λ c κs. search rules)
     -- returns-2
-    (λ c. (c.node_at.ensures.0 ∙ variable_here _ _ c.before.if1.false, c.node_at.ensures.1)))
+    (λ c. (c.node_at.ensures.0 ∙ variable_here _ _ c.if-x-gt31.false, c.node_at.ensures.1)))

@@ -19,4 +19,4 @@ cell_spec =
     -- returns
     (λ c. search rules)
     -- returns-2
-    (λ c. (sym (get_or-eq_default c.before.before.args.table.now 0 c.if1.false), omega arith)))
+    (λ c. (sym (get_or-eq_default c.args.table.now 0 c.if-p-table.false), omega arith)))

@@ -13,8 +13,8 @@ column_behind_spec =
     tie.close
     (tie.spec
     -- returns
-    (λ c. (column_feed _ c.if1.true, omega arith))
+    (λ c. (column_feed _ c.if-b-eq10.true, omega arith))
     -- add-result
     (λ c. omega arith)
     -- returns-2
-    (λ c. (column_more _ c.if1.false, omega arith)))
+    (λ c. (column_more _ c.if-b-eq10.false, omega arith)))

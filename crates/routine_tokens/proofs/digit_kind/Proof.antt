@@ -9,14 +9,14 @@ digit_kind_spec =
     tie.close
     (tie.spec
     -- returns
-    (λ c. digits_long _ c.if1.true)
+    (λ c. digits_long _ c.if-word-gt1.true)
     -- shared-slice-read-if2
     (λ c. search rules)
     -- returns-2
-    (λ c. digit_zero _ c.before.before.before.requires c.before.before.if1.false c.if2.true)
+    (λ c. digit_zero _ c.requires c.if-word-gt1.false c.if-word-eq48.true)
     -- shared-slice-read-if3
     (λ c. search rules)
     -- returns-3
-    (λ c. digit_one _ c.before.before.before.before.before.requires c.before.before.before.before.if1.false c.before.before.if2.false c.if3.true)
+    (λ c. digit_one _ c.requires c.if-word-gt1.false c.if-word-eq48.false c.if-word-eq49.true)
     -- returns-4
-    (λ c. digit_other _ c.before.before.before.before.before.requires c.before.before.before.before.if1.false c.before.before.if2.false c.if3.false))
+    (λ c. digit_other _ c.requires c.if-word-gt1.false c.if-word-eq48.false c.if-word-eq49.false))

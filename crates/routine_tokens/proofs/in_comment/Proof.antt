@@ -9,6 +9,6 @@ in_comment_spec =
     tie.close
     (tie.spec
     -- returns
-    (λ c. unfold in_comment in rw c.if1.true)
+    (λ c. unfold in_comment in rw c.if-comment.true)
     -- returns-2
-    (λ c. unfold in_comment in rw c.if1.false))
+    (λ c. unfold in_comment in rw c.if-comment.false))

@@ -14,4 +14,4 @@ is_word_byte_spec =
     -- is-digit-requires
     (λ c κs. search rules)
     -- returns
-    (λ c. unfold is_word_byte in rw (c.before.is-letter.ensures, c.is_digit.ensures) (or_test _ _)))
+    (λ c. unfold is_word_byte in rw (c.is_letter.ensures, c.is_digit.ensures) (or_test _ _)))

@@ -15,6 +15,6 @@ line_behind_spec =
     -- add-result
     (λ c. omega arith)
     -- returns
-    (λ c. (line_feed _ c.if1.true, omega arith))
+    (λ c. (line_feed _ c.if-b-eq10.true, omega arith))
     -- returns-2
-    (λ c. (line_same _ c.if1.false, omega arith)))
+    (λ c. (line_same _ c.if-b-eq10.false, omega arith)))

@@ -15,4 +15,4 @@ line_of_spec =
     -- line-from-requires
     (λ c κs. omega arith)
     -- returns
-    (λ c. (c.line-from.ensures.0 ∙ line_start _ _, c.line-from.ensures.1)))
+    (λ c. (c.line_from.ensures.0 ∙ line_start _ _, c.line_from.ensures.1)))

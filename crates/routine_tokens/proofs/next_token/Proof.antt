@@ -18,4 +18,4 @@ next_token_spec =
     -- token-at-requires
     (λ c κs. search rules)
     -- returns
-    (λ c. c.token-at.ensures ∙ (rw c.before.past-separators.ensures (token_from_lem _ _))))
+    (λ c. c.token_at.ensures ∙ (rw c.past_separators.ensures (token_from_lem _ _))))

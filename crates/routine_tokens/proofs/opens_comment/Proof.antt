@@ -12,10 +12,10 @@ opens_comment_spec =
     -- add-next
     (λ c. search rules)
     -- returns
-    (λ c. comment_short c.before.args.text.now c.before.args.at c.before.requires c.if1.true)
+    (λ c. comment_short c.args.text.now c.args.at c.requires c.if-text-next.true)
     -- shared-slice-read-result
     (λ c. search rules)
     -- shared-slice-read-result-2
     (λ c. search rules)
     -- returns-2
-    (λ c. and_test _ _ ∙ comment_test c.before.before.before.args.text.now c.before.before.before.args.at c.before.before.before.requires c.before.before.if1.false))
+    (λ c. and_test _ _ ∙ comment_test c.args.text.now c.args.at c.requires c.if-text-next.false))

@@ -11,24 +11,24 @@ use Rattle.routine_tokens.proofs.Bytes.{separator_here, separator_not, separator
 use Rattle.routine_tokens.proofs.past_separators.Statement.{statement}
 use Rattle.routine_tokens.proofs.past_separators.Tie as tie
 
-abbrev invariant-loop : tie.invariant-loop
-invariant-loop text at comment₀ i₀ comment i = i + separators comment (drop i text) ≡ at + separators false (drop at text)
+abbrev invariant-loop-i : tie.invariant-loop-i
+invariant-loop-i text at comment₀ i₀ comment i = i + separators comment (drop i text) ≡ at + separators false (drop at text)
 
-abbrev decreases-loop : tie.decreases-loop
-decreases-loop text at comment₀ i₀ comment i = length text - i
+abbrev decreases-loop-i : tie.decreases-loop-i
+decreases-loop-i text at comment₀ i₀ comment i = length text - i
 
 pub past_separators_spec : {M : Type 1} → statement M
 past_separators_spec =
     tie.close
     (tie.spec
-    invariant-loop
-    decreases-loop
+    invariant-loop-i
+    decreases-loop-i
     -- loop-holds
     (λ c. refl)
     -- separates-requires
     (λ c κs. search rules)
     -- returns
-    (λ c. omega (arith, separator_not _ _ c.before.before.loop-test.true _ (sym c.before.separates.ensures ∙ not-true _ c.if1.true), c.before.before.before.loop.invariant))
+    (λ c. omega (arith, separator_not _ _ c.loop-i-test.true _ (sym c.separates.ensures ∙ c.if-not-separates.true), c.loop-i.invariant))
     -- shared-slice-read-in-comment
     (λ c. omega arith)
     -- in-comment-requires
@@ -38,10 +38,10 @@ past_separators_spec =
     -- loop-less
     (λ c. omega arith)
     -- loop-again
-    (λ c. let text = c.before.before.before.before.before.before.before.args.text.now in
-    let l = c.before.before.before.before.before.loop in
-    let e = sym c.before.before.before.separates.ensures ∙ not-false _ c.before.before.if1.false in
-    let s = separator_here text l.i c.before.before.before.before.loop-test.true l.comment e in
-    rw c.in-comment.ensures (omega (arith, s, l.invariant)))
+    (λ c. let text = c.args.text.now in
+    let l = c.loop-i in
+    let e = sym c.separates.ensures ∙ c.if-not-separates.false in
+    let s = separator_here text l.i c.loop-i-test.true l.comment e in
+    rw c.in_comment-comment.ensures (omega (arith, s, l.invariant)))
     -- returns-2
-    (λ c. omega (arith, separators_end c.before.before.before.args.text.now c.before.loop.i c.before.loop.comment c.loop-test.false, c.before.loop.invariant)))
+    (λ c. omega (arith, separators_end c.args.text.now c.loop-i.i c.loop-i.comment c.loop-i-test.false, c.loop-i.invariant)))

@@ -9,33 +9,33 @@ use Rattle.routine_tokens.proofs.Rows.{length-end, length_blank, length-next}
 use Rattle.routine_tokens.proofs.row_length.Statement.{statement}
 use Rattle.routine_tokens.proofs.row_length.Tie as tie
 
-abbrev invariant-loop : tie.invariant-loop
-invariant-loop row i₀ i = i + row_length (drop i row) ≡ row_length row
+abbrev invariant-loop-i : tie.invariant-loop-i
+invariant-loop-i row i₀ i = i + row_length (drop i row) ≡ row_length row
 
-abbrev decreases-loop : tie.decreases-loop
-decreases-loop row i₀ i = length row - i
+abbrev decreases-loop-i : tie.decreases-loop-i
+decreases-loop-i row i₀ i = length row - i
 
 pub row_length_spec : {M : Type 1} → statement M
 row_length_spec =
     tie.close
     (tie.spec
-    invariant-loop
-    decreases-loop
+    invariant-loop-i
+    decreases-loop-i
     -- loop-holds
     (λ c. omega arith)
     -- shared-slice-read-if1
     (λ c. omega arith)
     -- returns
-    (λ c. let row = c.before.before.before.before.args.row.now in
-    let h = length_blank row c.before.before.before.loop.i c.before.before.loop-test.true c.if1.true in
-    omega (arith, h, c.before.before.before.loop.invariant))
+    (λ c. let row = c.args.row.now in
+    let h = length_blank row c.loop-i.i c.loop-i-test.true c.if-row-i-eq32.true in
+    omega (arith, h, c.loop-i.invariant))
     -- add-i
     (λ c. omega arith)
     -- loop-less
     (λ c. omega arith)
     -- loop-again
-    (λ c. let row = c.before.before.before.before.args.row.now in
-    let h = length-next row c.before.before.before.loop.i c.before.before.loop-test.true c.if1.false in
-    omega (arith, h, c.before.before.before.loop.invariant))
+    (λ c. let row = c.args.row.now in
+    let h = length-next row c.loop-i.i c.loop-i-test.true c.if-row-i-eq32.false in
+    omega (arith, h, c.loop-i.invariant))
     -- returns-2
-    (λ c. omega (arith, length-end c.before.before.args.row.now c.before.loop.i c.loop-test.false, c.before.loop.invariant)))
+    (λ c. omega (arith, length-end c.args.row.now c.loop-i.i c.loop-i-test.false, c.loop-i.invariant)))

@@ -16,7 +16,7 @@ separates_spec =
     -- shared-slice-read-result
     (λ c. search rules)
     -- returns
-    (λ c. rw c.before.if1.true (separates_within _ _ c.before.before.before.requires))
+    (λ c. rw c.if-comment.true (separates_within _ _ c.requires))
     -- shared-slice-read-is-blank
     (λ c. search rules)
     -- is-blank-requires
@@ -24,4 +24,4 @@ separates_spec =
     -- opens-comment-requires
     (λ c κs. search rules)
     -- returns-2
-    (λ c. rw (c.before.before.before.if1.false, c.before.is-blank.ensures, c.opens-comment.ensures) (or_test _ _ ∙ separates_outside _ _ c.before.before.before.before.before.requires)))
+    (λ c. rw (c.if-comment.false, c.is_blank.ensures, c.opens_comment.ensures) (or_test _ _ ∙ separates_outside _ _ c.requires)))

@@ -36,21 +36,21 @@ sign_in_spec =
     -- row-length-requires
     (λ c κs. search rules)
     -- add-t17
-    (λ c. let s = c.before.before.before.before.before.before.before.args in
-    let e = c.before.before.before.row-of.ensures in
-    let f = c.row-length.ensures in
-    let h = sign_inside s.text.now s.table.now _ _ _ c.before.before.before.before.before.before.before.requires.0 c.before.before.if1.true e f in
+    (λ c. let s = c.args in
+    let e = c.row_of-row.ensures in
+    let f = c.row_length.ensures in
+    let h = sign_inside s.text.now s.table.now _ _ _ c.requires.0 c.if-row-lt16.true e f in
     omega (arith, h))
     -- returns
-    (λ c. let s = c.before.before.before.before.before.before.before.args in
+    (λ c. let s = c.args in
     let table = s.table.now in
-    let row = c.before.before.before.row-of.ensures ∙ ap (λ (bytes : List ℕ). row_of 16 false bytes table) (suffix s.text.now s.at) in
-    let size = c.row-length.ensures ∙ ap row_length (suffix table _) in
-    token_sign _ _ _ _ c.before.before.if1.true size ∙ ap (λ (r : ℕ). sign_of s.at r table) row)
+    let row = c.row_of-row.ensures ∙ ap (λ (bytes : List ℕ). row_of 16 false bytes table) (suffix s.text.now s.at) in
+    let size = c.row_length.ensures ∙ ap row_length (suffix table _) in
+    token_sign _ _ _ _ c.if-row-lt16.true size ∙ ap (λ (r : ℕ). sign_of s.at r table) row)
     -- add-t7
     (λ c. omega arith)
     -- returns-2
-    (λ c. let s = c.before.before.before.before.before.args in
+    (λ c. let s = c.args in
     let table = s.table.now in
-    let row = c.before.row-of.ensures ∙ ap (λ (bytes : List ℕ). row_of 16 false bytes table) (suffix s.text.now s.at) in
-    token_none _ _ _ c.if1.false ∙ ap (λ (r : ℕ). sign_of s.at r table) row))
+    let row = c.row_of-row.ensures ∙ ap (λ (bytes : List ℕ). row_of 16 false bytes table) (suffix s.text.now s.at) in
+    token_none _ _ _ c.if-row-lt16.false ∙ ap (λ (r : ℕ). sign_of s.at r table) row))

@@ -15,20 +15,18 @@ token_at_spec =
     tie.close
     (tie.spec
     -- returns
-    (λ c. token_end _ _ c.if1.true)
+    (λ c. token_end _ _ c.if-text-at.true)
     -- shared-slice-read-is-word-byte
     (λ c. search rules)
     -- is-word-byte-requires
     (λ c κs. search rules)
     -- word-at-requires
-    (λ c κs. let e = sym c.before.is-word-byte.ensures ∙ c.if2.true in
-    let w = word_here c.before.before.before.before.before.args.text.now c.before.before.before.before.before.args.at c.before.before.before.if1.false e in
-    (c.before.before.before.if1.false, omega (arith, w)))
+    (λ c κs. let e = sym c.is_word_byte.ensures ∙ c.if-is_word_byte.true in
+    let w = word_here c.args.text.now c.args.at c.if-text-at.false e in
+    (c.if-text-at.false, omega (arith, w)))
     -- returns-2
-    (λ c. c.word_at.ensures ∙ token_is_word _ _ c.before.before.before.before.if1.false (sym c.before.before.is-word-byte.ensures ∙ c.before.if2.true))
-    -- slice-aggregate-sign-in
-    (λ c. search rules)
+    (λ c. c.word_at.ensures ∙ token_is_word _ _ c.if-text-at.false (sym c.is_word_byte.ensures ∙ c.if-is_word_byte.true))
     -- sign-in-requires
-    (λ c κs. (c.before.before.before.before.if1.false, omega arith))
+    (λ c κs. (c.if-text-at.false, omega arith))
     -- returns-3
-    (λ c. c.sign-in.ensures ∙ token_is_sign _ _ c.before.before.before.before.before.if1.false (sym c.before.before.before.is-word-byte.ensures ∙ c.before.before.if2.false)))
+    (λ c. c.sign_in.ensures ∙ token_is_sign _ _ c.if-text-at.false (sym c.is_word_byte.ensures ∙ c.if-is_word_byte.false)))

@@ -15,12 +15,12 @@ word_at_spec =
     -- past-word-requires
     (λ c κs. search rules)
     -- sub-word-kind
-    (λ c. omega (arith, c.past_word.ensures))
+    (λ c. omega (arith, c.past_word-end.ensures))
     -- part-word-kind-start
-    (λ c. omega (arith, c.past_word.ensures))
+    (λ c. omega (arith, c.past_word-end.ensures))
     -- part-word-kind-end
-    (λ c. omega (arith, c.past_word.ensures))
+    (λ c. omega (arith, c.past_word-end.ensures))
     -- word-kind-requires
-    (λ c κs. part_holds _ _ _ (omega (arith, c.before.past_word.ensures, c.before.before.before.requires)) c.before.past_word.ensures.1)
+    (λ c κs. part_holds _ _ _ (omega (arith, c.past_word-end.ensures, c.requires)) c.past_word-end.ensures.1)
     -- returns
-    (λ c. token_word _ _ _ _ _ c.before.before.past_word.ensures.0 c.word-kind.ensures))
+    (λ c. token_word _ _ _ _ _ c.past_word-end.ensures.0 c.word_kind-kind.ensures))

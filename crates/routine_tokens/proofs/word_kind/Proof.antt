@@ -20,16 +20,14 @@ word_kind_spec =
     -- digit-kind-requires
     (λ c κs. search rules)
     -- returns
-    (λ c. c.digit-kind.ensures ∙ kind_digit _ c.before.before.before.before.before.requires (sym c.before.before.is_digit.ensures ∙ c.before.if1.true))
-    -- slice-aggregate-row-of
-    (λ c. search rules)
+    (λ c. c.digit_kind.ensures ∙ kind_digit _ c.requires (sym c.is_digit.ensures ∙ c.if-is_digit.true))
     -- row-of-requires
     (λ c κs. omega arith)
     -- add-result
     (λ c. omega arith)
     -- returns-2
-    (λ c. let e = sym c.before.before.before.before.is_digit.ensures ∙ c.before.before.before.if1.false in
-    kind_reserved c.if2.true ∙ ap reserved_kind c.before.row-of.ensures ∙ kind_row _ c.before.before.before.before.before.before.before.requires e)
+    (λ c. let e = sym c.is_digit.ensures ∙ c.if-is_digit.false in
+    kind_reserved c.if-row-lt23.true ∙ ap reserved_kind c.row_of-row.ensures ∙ kind_row _ c.requires e)
     -- returns-3
-    (λ c. let e = sym c.before.before.before.before.is_digit.ensures ∙ c.before.before.before.if1.false in
-    kind_name c.if2.false ∙ ap reserved_kind c.before.row-of.ensures ∙ kind_row _ c.before.before.before.before.before.before.before.requires e))
+    (λ c. let e = sym c.is_digit.ensures ∙ c.if-is_digit.false in
+    kind_name c.if-row-lt23.false ∙ ap reserved_kind c.row_of-row.ensures ∙ kind_row _ c.requires e))

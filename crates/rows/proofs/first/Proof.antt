@@ -14,7 +14,7 @@ first_spec =
     tie.close
     (tie.spec
     -- returns
-    (λ c. sym (ap (λ (w : ℕ). find (bit w) (from 32 0)) c.if1.true ∙ find-no-bit))
+    (λ c. sym (ap (λ (w : ℕ). find (bit w) (from 32 0)) c.if-row-eq0.true ∙ find-no-bit))
     -- cast-t4
     (λ c. record { fits = omega (arith, trailing_le 32 c.before.args.row) })
     -- returns-2

@@ -11,21 +11,21 @@ use Rattle.rows.proofs.Merge.{merge_more, merge_all}
 use Rattle.rows.proofs.merge_columns.Statement.{statement}
 use Rattle.rows.proofs.merge_columns.Tie as tie
 
-abbrev invariant-loop : tie.invariant-loop
-invariant-loop rows₀ low high a₀ rows a = (a ≤ 17) × (length rows ≡ 17) × Filled (columns low high (square rows₀)) (square rows₀) a (square rows)
+abbrev invariant-loop-a : tie.invariant-loop-a
+invariant-loop-a rows₀ low high a₀ rows a = (a ≤ 17) × (length rows ≡ 17) × Filled (columns low high (square rows₀)) (square rows₀) a (square rows)
 
-abbrev decreases-loop : tie.decreases-loop
-decreases-loop rows₀ low high a₀ rows a = 17 - a
+abbrev decreases-loop-a : tie.decreases-loop-a
+decreases-loop-a rows₀ low high a₀ rows a = 17 - a
 
-whole : (c : tie.After-loop invariant-loop decreases-loop) → c.before.loop.a ≡ 17
+whole : (c : tie.After-loop-a invariant-loop-a decreases-loop-a) → c.before.loop-a.a ≡ 17
 whole c = omega arith
 
 pub merge_columns_spec : {M : Type 1} → statement M
 merge_columns_spec =
     tie.close
     (tie.spec
-    invariant-loop
-    decreases-loop
+    invariant-loop-a
+    decreases-loop-a
     -- loop-holds
     (λ c. (omega arith, search rules, filled_none _ _))
     -- mul-renamed-row
@@ -44,12 +44,12 @@ merge_columns_spec =
     (λ c. omega arith)
     -- loop-again
     (λ c.
-    let l = c.before.before.before.loop in (
+    let l = c.before.before.before.loop-a in (
       omega arith,
       simp length-set l.invariant.1,
-      merge_more _ _ (omega arith) (omega arith) _ l.a (omega arith) l.rows l.invariant.1 _ c.renamed-row.ensures l.invariant.2,
+      merge_more _ _ (omega arith) (omega arith) _ l.a (omega arith) l.rows l.invariant.1 _ c.renamed_row.ensures l.invariant.2,
     ))
     -- same-length
     (λ c. omega arith)
     -- returns
-    (λ c. (merge_all _ _ (omega arith) (omega arith) _ _ (rw (whole c) at c.before.loop.invariant.2) (square_above _), c.before.loop.invariant.1)))
+    (λ c. (merge_all _ _ (omega arith) (omega arith) _ _ (rw (whole c) at c.before.loop-a.invariant.2) (square_above _), c.before.loop-a.invariant.1)))

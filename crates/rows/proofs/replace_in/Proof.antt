@@ -19,7 +19,7 @@ replace_in_spec =
     (λ c. omega arith)
     -- returns
     (λ c. (
-      c.before.before.merge-rows.ensures.0 ∙ ap (rows _ _) c.before.before.before.before.before.before.merge-columns.ensures.0
+      c.before.before.merge_rows.ensures.0 ∙ ap (rows _ _) c.before.before.before.before.before.before.merge_columns.ensures.0
           ∙ replaced _ _ _,
-      c.before.before.merge-rows.ensures.1,
+      c.before.before.merge_rows.ensures.1,
     )))

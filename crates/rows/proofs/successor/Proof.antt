@@ -15,4 +15,4 @@ successor_spec =
     -- first-requires
     (λ c κs. search rules)
     -- returns
-    (λ c. c.first.ensures ∙ lowest_term _ _ (omega arith) _ c.before.Successor-row.ensures))
+    (λ c. c.first.ensures ∙ lowest_term _ _ (omega arith) _ c.before.successor_row.ensures))

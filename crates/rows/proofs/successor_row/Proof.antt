@@ -16,4 +16,4 @@ successor_row_spec =
     -- element-copy-out-result
     (λ c. search rules)
     -- returns
-    (λ c. successor_bits _ _ _ (omega arith) (omega arith) _ c.before.term-row.ensures))
+    (λ c. successor_bits _ _ _ (omega arith) (omega arith) _ c.before.term_row-among.ensures))

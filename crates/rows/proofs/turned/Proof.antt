@@ -10,21 +10,21 @@ use Rattle.rows.proofs.Turning.{turned_more, turned_all}
 use Rattle.rows.proofs.turned.Statement.{statement}
 use Rattle.rows.proofs.turned.Tie as tie
 
-abbrev invariant-loop : tie.invariant-loop
-invariant-loop rows out₀ y₀ out y = (y ≤ 17) × (length out ≡ 17) × Filled (λ a b. square rows b a) (square out₀) y (square out)
+abbrev invariant-loop-y : tie.invariant-loop-y
+invariant-loop-y rows out₀ y₀ out y = (y ≤ 17) × (length out ≡ 17) × Filled (λ a b. square rows b a) (square out₀) y (square out)
 
-abbrev decreases-loop : tie.decreases-loop
-decreases-loop rows out₀ y₀ out y = 17 - y
+abbrev decreases-loop-y : tie.decreases-loop-y
+decreases-loop-y rows out₀ y₀ out y = 17 - y
 
-whole : (c : tie.After-loop invariant-loop decreases-loop) → c.before.loop.y ≡ 17
+whole : (c : tie.After-loop-y invariant-loop-y decreases-loop-y) → c.before.loop-y.y ≡ 17
 whole c = omega arith
 
 pub turned_spec : {M : Type 1} → statement M
 turned_spec =
     tie.close
     (tie.spec
-    invariant-loop
-    decreases-loop
+    invariant-loop-y
+    decreases-loop-y
     -- loop-holds
     (λ c. (omega arith, search rules, filled_none _ _))
     -- column-requires
@@ -39,7 +39,7 @@ turned_spec =
     (λ c. omega arith)
     -- loop-again
     (λ c.
-    let l = c.before.before.loop in
+    let l = c.before.before.loop-y in
     (omega arith, simp length-set l.invariant.1, turned_more _ _ l.y (omega arith) l.out l.invariant.1 _ c.column.ensures l.invariant.2))
     -- returns
-    (λ c. turned_all _ _ _ (rw (whole c) at c.before.loop.invariant.2)))
+    (λ c. turned_all _ _ _ (rw (whole c) at c.before.loop-y.invariant.2)))

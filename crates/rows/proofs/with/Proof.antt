@@ -11,6 +11,6 @@ with_spec =
     -- only-requires
     (λ c κs. search rules)
     -- returns
-    (λ c i. bit_with _ _ _ c.only.ensures i _ c.before.if1.true)
+    (λ c i. bit_with _ _ _ c.only.ensures i _ c.before.if-wanted.true)
     -- returns-2
-    (λ c i. bit_as_it_was _ _ i _ c.if1.false))
+    (λ c i. bit_as_it_was _ _ i _ c.if-wanted.false))

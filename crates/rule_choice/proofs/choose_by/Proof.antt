@@ -16,35 +16,21 @@ use Rattle.rule_choice.proofs.Searches.{turned_kept, turned_now}
 use Rattle.rule_choice.proofs.choose_by.Statement.{statement}
 use Rattle.rule_choice.proofs.choose_by.Tie as tie
 
-abbrev invariant-loop : tie.invariant-loop
-invariant-loop k order alive link reach n back₀ turned₀ i₀ back turned i =
+abbrev invariant-loop-i : tie.invariant-loop-i
+invariant-loop-i k order alive link reach n back₀ turned₀ i₀ back turned i =
     (i ≤ length order)
     × (first_of (tried_at k.0 n (bit alive) (graph_of link reach)) order ≡ first_of (tried_at k.0 n (bit alive) (graph_of link reach)) (drop i order))
     × (turned ≡ true → Turned back reach)
 
-abbrev decreases-loop : tie.decreases-loop
-decreases-loop k order alive link reach n back₀ turned₀ i₀ back turned i = length order - i
-
--- The places that lie behind a place.
-
-abbrev turned_once_of_back : tie.After-back invariant-loop decreases-loop → tie.After-turned-once invariant-loop decreases-loop
-turned_once_of_back c = c.before.before
-
-abbrev start_of_at_loop : tie.At-loop invariant-loop decreases-loop → tie.Start invariant-loop decreases-loop
-start_of_at_loop c = c.before.before
-
-abbrev tried_of_enum_told : tie.After-enum-told invariant-loop decreases-loop → tie.After-tried invariant-loop decreases-loop
-tried_of_enum_told c = c.before.before
-
-abbrev at_loop_of_turned_once : tie.After-turned-once invariant-loop decreases-loop → tie.At-loop invariant-loop decreases-loop
-at_loop_of_turned_once c = c.before.before.before.before
+abbrev decreases-loop-i : tie.decreases-loop-i
+decreases-loop-i k order alive link reach n back₀ turned₀ i₀ back turned i = length order - i
 
 pub choose_by_spec : {M : Type 1} → statement M
 choose_by_spec =
     tie.close
     (tie.spec
-    invariant-loop
-    decreases-loop
+    invariant-loop-i
+    decreases-loop-i
     -- loop-holds
     (λ c. (omega arith, refl, λ e. absurd (false≢true e)))
     -- shared-slice-read-looks-back
@@ -56,19 +42,17 @@ choose_by_spec =
     -- shared-slice-read-tried
     (λ c. omega arith)
     -- tried-requires
-    (λ c κs.
-    let after_turned_once = turned_once_of_back c in let at_loop = at_loop_of_turned_once after_turned_once in (
-      (start_of_at_loop at_loop).pre,
-      λ e. turned_now _ _ _ _ _ at_loop.loop.inv.2 after_turned_once.turned-once.ensures.0
-          after_turned_once.turned-once.ensures.1 (after_turned_once.before.looks-back.ensures ∙ e),
+    (λ c κs. (
+      c.requires,
+      λ e. turned_now _ _ _ _ _ c.loop-i.invariant.2 c.turned_once-back.ensures.0
+          c.turned_once-back.ensures.1 (c.looks_back-wanted.ensures ∙ e),
     ))
     -- enum-known-l
     (λ c. search rules)
     -- returns
     (λ c.
-    let after_tried = c.before.before.before in let at_loop = at_loop_of_turned_once (turned_once_of_back after_tried.before) in
-    sym (at_loop.loop.inv.1 ∙ rest_here _ (start_of_at_loop at_loop).args.order.now at_loop.loop.i _ (omega arith)
-    (sym after_tried.tried.ensures ∙ ap choice_of c.before.l.given.1)))
+    sym (c.loop-i.invariant.1 ∙ rest_here _ c.args.order.now c.loop-i.i _ (omega arith)
+    (sym c.tried.ensures ∙ ap choice_of c.in-Apply.is)))
     -- enum_told
     (λ c. search rules)
     -- add-i
@@ -76,15 +60,12 @@ choose_by_spec =
     -- loop-less
     (λ c. omega arith)
     -- loop-again
-    (λ c.
-    let after_tried = tried_of_enum_told c in let after_turned_once = turned_once_of_back after_tried.before in
-    let at_loop = at_loop_of_turned_once after_turned_once in (
+    (λ c. (
       omega arith,
-      at_loop.loop.inv.1 ∙ rest_next _ (start_of_at_loop at_loop).args.order.now at_loop.loop.i (omega arith)
-          (sym after_tried.tried.ensures ∙ ap choice_of c.enum_told.given.1),
-      turned_kept _ _ _ _ _ at_loop.loop.inv.2 after_turned_once.turned-once.ensures.0 after_turned_once.turned-once.ensures.1,
+      c.loop-i.invariant.1 ∙ rest_next _ c.args.order.now c.loop-i.i (omega arith)
+          (sym c.tried.ensures ∙ ap choice_of c.in_default.is),
+      turned_kept _ _ _ _ _ c.loop-i.invariant.2 c.turned_once-back.ensures.0 c.turned_once-back.ensures.1,
     ))
     -- returns-2
     (λ c.
-    let at_loop = c.before in
-    sym (at_loop.loop.invariant.1 ∙ rest_end _ (start_of_at_loop at_loop).args.order.now at_loop.loop.i (omega arith))))
+    sym (c.loop-i.invariant.1 ∙ rest_end _ c.args.order.now c.loop-i.i (omega arith))))

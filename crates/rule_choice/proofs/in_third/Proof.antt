@@ -7,11 +7,6 @@ use Rattle.rule_choice.proofs.Nested.{third_nowhere, third_at}
 use Rattle.rule_choice.proofs.in_third.Statement.{statement}
 use Rattle.rule_choice.proofs.in_third.Tie as tie
 
--- The places that lie behind a place.
-
-abbrev first_of_enum_told : tie.After-enum-told → tie.After-first
-first_of_enum_told c = c.before.before
-
 pub in_third_spec : {M : Type 1} → statement M
 in_third_spec =
     tie.close
@@ -28,15 +23,11 @@ in_third_spec =
     (λ c. search rules)
     -- returns
     (λ c alive e.
-    let after_first = first_of_enum_told c in let after_up_to = after_first.before in let after_third_row = after_up_to.before in
-    let start = after_third_row.before in
-    sym (third_nowhere _ _ _ _ start.pre.3 _ _ e
-    (sym (find_masked _ _ _ _ start.pre.0 after_third_row.third-row.ensures after_up_to.up_to.ensures) ∙ sym after_first.first.ensures
-    ∙ ap found_of c.enum_told.given.1)))
+    sym (third_nowhere _ _ _ _ c.requires.3 _ _ e
+    (sym (find_masked _ _ _ _ c.requires.0 c.third_row-row.ensures c.up_to.ensures) ∙ sym c.first.ensures
+    ∙ ap found_of c.in_default.is)))
     -- returns-2
     (λ c alive e.
-    let after_first = c.before.before.before in let after_up_to = after_first.before in let after_third_row = after_up_to.before in
-    let start = after_third_row.before in
-    sym (third_at _ _ _ _ start.requires.3 _ _ e _
-    (sym (find_masked _ _ _ _ start.requires.0 after_third_row.third-row.ensures after_up_to.up_to.ensures) ∙ sym after_first.first.ensures
-    ∙ ap found_of c.before.z.given.1))))
+    sym (third_at _ _ _ _ c.requires.3 _ _ e _
+    (sym (find_masked _ _ _ _ c.requires.0 c.third_row-row.ensures c.up_to.ensures) ∙ sym c.first.ensures
+    ∙ ap found_of c.in-At.is))))

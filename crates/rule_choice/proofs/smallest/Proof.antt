@@ -13,21 +13,13 @@ use Rattle.rule_choice.specs.Smallest.{in_second, in_first}
 use Rattle.rule_choice.proofs.smallest.Statement.{statement}
 use Rattle.rule_choice.proofs.smallest.Tie as tie
 
-abbrev invariant-loop : tie.invariant-loop
-invariant-loop rule alive link reach back n x₀ x = in_first n (bit alive) (graph_of link reach) (kind_of rule) ≡ first_of (in_second n (bit alive) (graph_of link reach) (kind_of rule)) (from (n + 1 - x) x)
+abbrev invariant-loop-x : tie.invariant-loop-x
+invariant-loop-x rule alive link reach back n x₀ x = in_first n (bit alive) (graph_of link reach) (kind_of rule) ≡ first_of (in_second n (bit alive) (graph_of link reach) (kind_of rule)) (from (n + 1 - x) x)
 
-abbrev decreases-loop : tie.decreases-loop
-decreases-loop rule alive link reach back n x₀ x = n + 1 - x
+abbrev decreases-loop-x : tie.decreases-loop-x
+decreases-loop-x rule alive link reach back n x₀ x = n + 1 - x
 
--- The places that lie behind a place.
-
-abbrev in_second_of_enum_told : tie.After-enum-told invariant-loop decreases-loop → tie.After-in-second invariant-loop decreases-loop
-in_second_of_enum_told c = c.before.before
-
-abbrev at_loop_of_in_second : tie.After-in-second invariant-loop decreases-loop → tie.At-loop invariant-loop decreases-loop
-at_loop_of_in_second c = c.before.before
-
-loop_holds : tie.Need-loop-init invariant-loop decreases-loop
+loop_holds : tie.Need-loop-x-init invariant-loop-x decreases-loop-x
 unfolding in_first
 -- loop-holds
 loop_holds c = refl
@@ -36,19 +28,17 @@ pub smallest_spec : {M : Type 1} → statement M
 smallest_spec =
     tie.close
     (tie.spec
-    invariant-loop
-    decreases-loop
+    invariant-loop-x
+    decreases-loop-x
     loop_holds
     -- in-second-requires
     (λ c κs.
-    let start = c.before.before in
-    (start.requires.0, omega arith, start.requires.1))
+    (c.requires.0, omega arith, c.requires.1))
     -- enum-known-a
     (λ c. search rules)
     -- returns
     (λ c.
-    let after_in_second = c.before.before.before in
-    sym ((at_loop_of_in_second after_in_second).loop.invariant ∙ first_here _ _ _ _ (omega arith) (sym after_in_second.in-second.ensures ∙ ap place_of c.before.a.given.1)))
+    sym (c.loop-x.invariant ∙ first_here _ _ _ _ (omega arith) (sym c.in_second.ensures ∙ ap place_of c.in-At.is)))
     -- enum_told
     (λ c. search rules)
     -- add-x
@@ -57,7 +47,6 @@ smallest_spec =
     (λ c. omega arith)
     -- loop-again
     (λ c.
-    let after_in_second = in_second_of_enum_told c in
-    (at_loop_of_in_second after_in_second).loop.inv ∙ first_next _ _ _ (omega arith) (sym after_in_second.in-second.ensures ∙ ap place_of c.enum_told.given.1))
+    c.loop-x.invariant ∙ first_next _ _ _ (omega arith) (sym c.in_second.ensures ∙ ap place_of c.in_default.is))
     -- returns-2
-    (λ c. sym (c.before.loop.invariant ∙ first_end _ _ _ (omega arith))))
+    (λ c. sym (c.loop-x.invariant ∙ first_end _ _ _ (omega arith))))

@@ -8,17 +8,6 @@ use Rattle.rule_choice.proofs.Nested.{tried_none, tried_nowhere, tried_is}
 use Rattle.rule_choice.proofs.tried.Statement.{statement}
 use Rattle.rule_choice.proofs.tried.Tie as tie
 
--- The places that lie behind a place.
-
-abbrev smallest_of_enum_told2 : tie.After-enum-told2 → tie.After-smallest
-smallest_of_enum_told2 c = c.before.before
-
-abbrev rule_numbered_of_rule : tie.After-rule → tie.After-rule-numbered
-rule_numbered_of_rule c = c.before.before
-
-abbrev rule_of_smallest : tie.After-smallest → tie.After-rule
-rule_of_smallest c = c.before.before
-
 pub tried_spec : {M : Type 1} → statement M
 tried_spec =
     tie.close
@@ -30,26 +19,23 @@ tried_spec =
     -- enum_told
     (λ c. search rules)
     -- returns
-    (λ c. sym (tried_none _ _ _ _ _ (sym c.before.before.rule-numbered.ensures ∙ ap numbered_of c.enum_told.given.1)))
+    (λ c. sym (tried_none _ _ _ _ _ (sym c.rule_numbered.ensures ∙ ap numbered_of c.in_default.is)))
     -- smallest-requires
     (λ c κs.
-    let after_rule_numbered = rule_numbered_of_rule c.before in let start = after_rule_numbered.before in
-    (start.pre.0, λ e. start.pre.1 (looks_some _ _ (sym after_rule_numbered.rule-numbered.ensures ∙ ap numbered_of c.before.rule.given.1) ∙ e)))
+    (c.requires.0, λ e. c.requires.1 (looks_some _ _ (sym c.rule_numbered.ensures ∙ ap numbered_of c.in-Is.is) ∙ e)))
     -- enum-known-x
     (λ c. search rules)
     -- enum-told-2
     (λ c. search rules)
     -- returns-2
     (λ c.
-    let after_smallest = smallest_of_enum_told2 c in let after_rule = rule_of_smallest after_smallest in
     sym
     (tried_nowhere _ _ _ _ _ _
-    (sym (rule_numbered_of_rule after_rule).rule-numbered.ensures ∙ ap numbered_of after_rule.rule.given.1)
-    (sym after_smallest.smallest.ensures ∙ ap place_of c.enum-told2.given.1)))
+    (sym c.rule_numbered.ensures ∙ ap numbered_of c.in-Is.is)
+    (sym c.smallest.ensures ∙ ap place_of c.in_default-smallest.is)))
     -- returns-3
     (λ c.
-    let after_smallest = c.before.before.before in let after_rule = rule_of_smallest after_smallest in
     sym
     (tried_is _ _ _ _ _ _ _
-    (sym (rule_numbered_of_rule after_rule).rule-numbered.ensures ∙ ap numbered_of after_rule.rule.given.1)
-    (sym after_smallest.smallest.ensures ∙ ap place_of c.before.x.given.1))))
+    (sym c.rule_numbered.ensures ∙ ap numbered_of c.in-Is.is)
+    (sym c.smallest.ensures ∙ ap place_of c.in-At.is))))

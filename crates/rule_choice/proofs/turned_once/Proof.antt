@@ -12,6 +12,6 @@ turned_once_spec =
     -- turned-requires
     (λ c κs. search rules)
     -- returns
-    (λ c. ((λ e. c.turned.ensures), λ e. absurd (true≢false (sym c.before.if1.true ∙ e))))
+    (λ c. ((λ e. c.turned.ensures), λ e. absurd (true≢false (sym c.if-wanted.true ∙ e))))
     -- returns-2
-    (λ c. ((λ e. absurd (true≢false (sym e ∙ c.if1.false))), λ e. refl)))
+    (λ c. ((λ e. absurd (true≢false (sym e ∙ c.if-wanted.false))), λ e. refl)))

@@ -26,18 +26,18 @@ is_not_cycle_spec =
     -- enum-told-8
     (λ c. search rules)
     -- returns
-    (λ c. rw c.enum_told.given.1)
+    (λ c. rw c.in-Reflex.is)
     -- returns-2
-    (λ c. rw c.enum-told2.given.1)
+    (λ c. rw c.in-Trans1.is)
     -- returns-3
-    (λ c. rw c.enum-told3.given.1)
+    (λ c. rw c.in-Trans2.is)
     -- returns-4
-    (λ c. rw c.enum-told4.given.1)
+    (λ c. rw c.in-Func.is)
     -- returns-5
-    (λ c. rw c.enum-told5.given.1)
+    (λ c. rw c.in-Cycle.is)
     -- returns-6
-    (λ c. rw c.enum-told6.given.1)
+    (λ c. rw c.in-Scc.is)
     -- returns-7
-    (λ c. rw c.enum-told7.given.1)
+    (λ c. rw c.in-Total.is)
     -- returns-8
-    (λ c. rw c.enum-told8.given.1))
+    (λ c. rw c.in-Share.is))

@@ -7,11 +7,6 @@ use Rattle.rules.proofs.Rows.{near_bit, far_bit, pair_reflex, pair_trans1, pair_
 use Rattle.rules.proofs.pair_row.Statement.{statement}
 use Rattle.rules.proofs.pair_row.Tie as tie
 
--- The places that lie behind a place.
-
-abbrev start_of_both : tie.After-both → tie.Start
-start_of_both c = c.before.before.before
-
 pub pair_row_spec : {M : Type 1} → statement M
 unfolding pair_test two_way
 pair_row_spec =
@@ -63,39 +58,39 @@ pair_row_spec =
     (λ c κs. search rules)
     -- returns
     (λ c.
-    let start = start_of_both c.before.before.before in
-    λ y h. rw c.before.enum_told.given.1 (pair_reflex start.args.link.now start.args.reach.now start.args.alive start.args.x.0 start.pre.0 y h _ c.without.ensures))
+    let start = c in
+    λ y h. rw c.in-Reflex.is (pair_reflex start.args.link.now start.args.reach.now start.args.alive start.args.x.0 start.requires.0 y h _ c.without.ensures))
     -- returns-2
     (λ c.
-    let start = start_of_both c.before.before.before in
-    λ y h. rw c.before.enum-told2.given.1 (pair_trans1 start.args.link.now start.args.reach.now start.args.alive start.args.x.0 start.pre.0 y h _ c.without2.ensures))
+    let start = c in
+    λ y h. rw c.in-Trans1.is (pair_trans1 start.args.link.now start.args.reach.now start.args.alive start.args.x.0 start.requires.0 y h _ c.without-in-Trans1.ensures))
     -- returns-3
     (λ c.
-    let start = start_of_both c.before.before in
-    λ y h. rw c.enum-told3.given.1 (far_bit start.args.link.now start.args.reach.now start.args.x.0 y start.pre.0 h))
+    let start = c in
+    λ y h. rw c.in-Trans2.is (far_bit start.args.link.now start.args.reach.now start.args.x.0 y start.requires.0 h))
     -- returns-4
     (λ c.
-    let start = start_of_both c.before.before in
-    λ y h. rw c.enum-told4.given.1 (near_bit start.args.link.now start.args.reach.now start.args.x.0 y start.pre.0 h))
+    let start = c in
+    λ y h. rw c.in-Func.is (near_bit start.args.link.now start.args.reach.now start.args.x.0 y start.requires.0 h))
     -- returns-5
     (λ c.
-    let start = start_of_both c.before.before in
-    λ y h. rw c.enum-told5.given.1 (far_bit start.args.link.now start.args.reach.now start.args.x.0 y start.pre.0 h))
+    let start = c in
+    λ y h. rw c.in-Cycle.is (far_bit start.args.link.now start.args.reach.now start.args.x.0 y start.requires.0 h))
     -- returns-6
     (λ c.
-    let after_enum_told6 = c.before.before in let start = start_of_both after_enum_told6.before.before in
-    λ y h. rw after_enum_told6.enum-told6.given.1
+    let after_enum_told6 = c in let start = after_enum_told6 in
+    λ y h. rw after_enum_told6.in-Scc.is
     (pair_mutual start.args.link.now start.args.reach.now start.args.back.now
-    (start.pre.1 (ap (λ (r : _). two_way (kind_of r)) after_enum_told6.enum-told6.given.1)) start.args.x.0 start.pre.0 y h _ _
-    c.before.only.ensures c.without3.ensures))
+    (start.requires.1 (ap (λ (r : _). two_way (kind_of r)) after_enum_told6.in-Scc.is)) start.args.x.0 start.requires.0 y h _ _
+    c.only.ensures c.without-in-Scc.ensures))
     -- returns-7
     (λ c.
-    let start = start_of_both c.before.before in
-    λ y h. rw c.enum-told7.given.1 (far_bit start.args.link.now start.args.reach.now start.args.x.0 y start.pre.0 h))
+    let start = c in
+    λ y h. rw c.in-Total.is (far_bit start.args.link.now start.args.reach.now start.args.x.0 y start.requires.0 h))
     -- returns-8
     (λ c.
-    let after_enum_told8 = c.before.before in let start = start_of_both after_enum_told8.before.before in
-    λ y h. rw after_enum_told8.enum-told8.given.1
+    let after_enum_told8 = c in let start = after_enum_told8 in
+    λ y h. rw after_enum_told8.in-Share.is
     (pair_mutual start.args.link.now start.args.reach.now start.args.back.now
-    (start.pre.1 (ap (λ (r : _). two_way (kind_of r)) after_enum_told8.enum-told8.given.1)) start.args.x.0 start.pre.0 y h _ _
-    c.before.only2.ensures c.without4.ensures)))
+    (start.requires.1 (ap (λ (r : _). two_way (kind_of r)) after_enum_told8.in-Share.is)) start.args.x.0 start.requires.0 y h _ _
+    c.only-in-Share.ensures c.without-in-Share.ensures)))

@@ -12,31 +12,31 @@ rule_numbered_spec =
     tie.close
     (tie.spec
     -- returns
-    (λ c. rw c.match.keys1)
+    (λ c. rw c.in-1.is)
     -- returns-2
-    (λ c. rw c.match.keys2)
+    (λ c. rw c.in-2.is)
     -- returns-3
-    (λ c. rw c.match.keys3)
+    (λ c. rw c.in-3.is)
     -- returns-4
-    (λ c. rw c.match.keys4)
+    (λ c. rw c.in-4.is)
     -- returns-5
-    (λ c. rw c.match.keys5)
+    (λ c. rw c.in-5.is)
     -- returns-6
-    (λ c. rw c.match.keys6)
+    (λ c. rw c.in-6.is)
     -- returns-7
-    (λ c. rw c.match.keys7)
+    (λ c. rw c.in-7.is)
     -- returns-8
-    (λ c. rw c.match.keys8)
+    (λ c. rw c.in-8.is)
     -- returns-9
     (λ c.
-    let k = c.before.args.k in
+    let k = c.args.k in
     rw (
-      ne_eqb 1 k (λ e. c.match.rest.0.0.0.0.0.0.0.1 (sym e)),
-      ne_eqb 2 k (λ e. c.match.rest.0.0.0.0.0.0.1 (sym e)),
-      ne_eqb 3 k (λ e. c.match.rest.0.0.0.0.0.1 (sym e)),
-      ne_eqb 4 k (λ e. c.match.rest.0.0.0.0.1 (sym e)),
-      ne_eqb 5 k (λ e. c.match.rest.0.0.0.1 (sym e)),
-      ne_eqb 6 k (λ e. c.match.rest.0.0.1 (sym e)),
-      ne_eqb 7 k (λ e. c.match.rest.0.1 (sym e)),
-      ne_eqb 8 k (λ e. c.match.rest.1 (sym e)),
+      ne_eqb 1 k (λ e. c.in_default.in_default-own.rest.0.0.0.0.0.0.0.1 (sym e)),
+      ne_eqb 2 k (λ e. c.in_default.in_default-own.rest.0.0.0.0.0.0.1 (sym e)),
+      ne_eqb 3 k (λ e. c.in_default.in_default-own.rest.0.0.0.0.0.1 (sym e)),
+      ne_eqb 4 k (λ e. c.in_default.in_default-own.rest.0.0.0.0.1 (sym e)),
+      ne_eqb 5 k (λ e. c.in_default.in_default-own.rest.0.0.0.1 (sym e)),
+      ne_eqb 6 k (λ e. c.in_default.in_default-own.rest.0.0.1 (sym e)),
+      ne_eqb 7 k (λ e. c.in_default.in_default-own.rest.0.1 (sym e)),
+      ne_eqb 8 k (λ e. c.in_default.in_default-own.rest.1 (sym e)),
     )))

@@ -8,20 +8,6 @@ use Rattle.rules.proofs.Rows.{third_trans2, third_func, third_scc, third_total, 
 use Rattle.rules.proofs.third_row.Statement.{statement}
 use Rattle.rules.proofs.third_row.Tie as tie
 
--- The places that lie behind a place.
-
-abbrev only_of_without3 : tie.After-without3 → tie.After-only
-only_of_without3 c = c.before.before
-
-abbrev enum_told8_of_result2 : tie.After-result2 → tie.After-enum-told8
-enum_told8_of_result2 c = c.before.before
-
-abbrev without5_of_without6 : tie.After-without6 → tie.After-without5
-without5_of_without6 c = c.before.before
-
-abbrev start_of_farther : tie.After-farther → tie.Start
-start_of_farther c = c.before.before
-
 pub third_row_spec : {M : Type 1} → statement M
 unfolding third_test two_way
 third_row_spec =
@@ -82,40 +68,40 @@ third_row_spec =
     -- element-copy-out-result-2
     (λ c. search rules)
     -- returns
-    (λ c. λ z l. rw c.enum_told.given.1 (bit_power 0 z))
+    (λ c. λ z l. rw c.in-Reflex.is (bit_power 0 z))
     -- returns-2
-    (λ c. λ z l. rw c.enum-told2.given.1 (bit_power 0 z))
+    (λ c. λ z l. rw c.in-Trans1.is (bit_power 0 z))
     -- returns-3
     (λ c.
-    let start = start_of_farther c.before.before.before in
-    λ z l. rw c.before.enum-told3.given.1
-    (third_trans2 start.args.link.now start.args.reach.now start.args.x.0 start.args.y.0 z start.pre.0 start.pre.1 l _
+    let start = c in
+    λ z l. rw c.in-Trans2.is
+    (third_trans2 start.args.link.now start.args.reach.now start.args.x.0 start.args.y.0 z start.requires.0 start.requires.1 l _
     c.without.ensures))
     -- returns-4
     (λ c.
-    let after_only = only_of_without3 c in let after_enum_told4 = after_only.before in
-    let start = start_of_farther after_enum_told4.before.before in
-    λ z l. rw after_enum_told4.enum-told4.given.1
-    (third_func start.args.link.now start.args.reach.now start.args.x.0 start.args.y.0 z start.pre.0 start.pre.1 l _ _ _
-    after_only.only.ensures c.before.without2.ensures c.without3.ensures))
+    let after_only = c in let after_enum_told4 = after_only in
+    let start = after_enum_told4 in
+    λ z l. rw after_enum_told4.in-Func.is
+    (third_func start.args.link.now start.args.reach.now start.args.x.0 start.args.y.0 z start.requires.0 start.requires.1 l _ _ _
+    after_only.only.ensures c.without-in-Func.ensures c.without-in-Func-2.ensures))
     -- returns-5
-    (λ c. λ z l. rw c.enum-told5.given.1 (bit-none z))
+    (λ c. λ z l. rw c.in-Cycle.is (bit-none z))
     -- returns-6
     (λ c.
-    let after_enum_told6 = c.before.before in let start = start_of_farther after_enum_told6.before.before in
-    λ z l. rw after_enum_told6.enum-told6.given.1
+    let after_enum_told6 = c in let start = after_enum_told6 in
+    λ z l. rw after_enum_told6.in-Scc.is
     (third_scc start.args.link.now start.args.reach.now start.args.back.now
-    (start.pre.2 (ap (λ (r : _). two_way (kind_of r)) after_enum_told6.enum-told6.given.1)) start.args.x.0 start.args.y.0 z
-    start.pre.0 start.pre.1 l _ c.without4.ensures))
+    (start.requires.2 (ap (λ (r : _). two_way (kind_of r)) after_enum_told6.in-Scc.is)) start.args.x.0 start.args.y.0 z
+    start.requires.0 start.requires.1 l _ c.without-in-Scc.ensures))
     -- returns-7
     (λ c.
-    let after_without5 = without5_of_without6 c in let after_enum_told7 = after_without5.before in
-    let start = start_of_farther after_enum_told7.before.before in
-    λ z l. rw after_enum_told7.enum-told7.given.1
+    let after_without5 = c in let after_enum_told7 = after_without5 in
+    let start = after_enum_told7 in
+    λ z l. rw after_enum_told7.in-Total.is
     (third_total start.args.link.now start.args.reach.now start.args.back.now
-    (start.pre.2 (ap (λ (r : _). two_way (kind_of r)) after_enum_told7.enum-told7.given.1)) start.args.x.0 start.args.y.0 z
-    start.pre.0 start.pre.1 l _ _ after_without5.without5.ensures c.without6.ensures))
+    (start.requires.2 (ap (λ (r : _). two_way (kind_of r)) after_enum_told7.in-Total.is)) start.args.x.0 start.args.y.0 z
+    start.requires.0 start.requires.1 l _ _ after_without5.without-in-Total.ensures c.without-in-Total-2.ensures))
     -- returns-8
     (λ c.
-    let after_enum_told8 = enum_told8_of_result2 c in let start = start_of_farther after_enum_told8.before.before in
-    λ z l. rw after_enum_told8.enum-told8.given.1 (third_share start.args.link.now start.args.reach.now start.args.x.0 start.args.y.0 z start.pre.0 start.pre.1 l)))
+    let after_enum_told8 = c in let start = after_enum_told8 in
+    λ z l. rw after_enum_told8.in-Share.is (third_share start.args.link.now start.args.reach.now start.args.x.0 start.args.y.0 z start.requires.0 start.requires.1 l)))

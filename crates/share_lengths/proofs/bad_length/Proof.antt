@@ -10,7 +10,7 @@ bad_length_spec =
     tie.close
     (tie.spec
     -- returns
-    (λ c. sym (cut_short _ c.if1.true))
+    (λ c. sym (cut_short _ c.if-head-lt2.true))
     -- byte-at-requires
     (λ c κs. search rules)
     -- mul-result
@@ -20,4 +20,4 @@ bad_length_spec =
     -- add-result
     (λ c. search rules)
     -- returns-2
-    (λ c. whole_length _ c.before.before.if1.false c.before.byte_at.ensures.0 c.byte-at2.ensures.0))
+    (λ c. whole_length _ c.if-head-lt2.false c.byte_at.ensures.0 c.byte_at-2.ensures.0))

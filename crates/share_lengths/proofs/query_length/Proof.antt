@@ -11,7 +11,7 @@ query_length_spec =
     -- bad-length-requires
     (λ c κs. search rules)
     -- returns
-    (λ c. asked _ (wanted-none _ c.before.bad-length.ensures c.if1.true))
+    (λ c. asked _ (wanted-none _ c.bad_length.ensures c.if-bad_length.true))
     -- byte-at-requires
     (λ c κs. search rules)
     -- mul-result
@@ -21,4 +21,4 @@ query_length_spec =
     -- add-result
     (λ c. search rules)
     -- returns-2
-    (λ c. asked _ (wanted_all _ c.before.before.before.bad-length.ensures c.before.before.if1.false c.before.byte_at.ensures.0 c.byte-at2.ensures.0)))
+    (λ c. asked _ (wanted_all _ c.bad_length.ensures c.if-bad_length.false c.byte_at.ensures.0 c.byte_at-2.ensures.0)))

@@ -35,7 +35,5 @@ first_turn_spec =
     (λ c. search rules)
     -- returns
     (λ c.
-    let after_take_turn = c.before.before.before in let after_at_most2 = after_take_turn.before.before.before.before in
-    let after_query_length = after_at_most2.before in
-    takes_first _ _ after_query_length.before.before.at_most.ensures _ _ after_at_most2.at-most2.ensures
-    after_query_length.query-length.ensures.0 after_take_turn.take-turn.ensures))
+    takes_first _ _ c.at_most-behind.ensures _ _ c.at_most-end.ensures
+    c.query_length-wanted.ensures.0 c.take_turn-taken.ensures))

@@ -18,5 +18,4 @@ process_spec =
     (λ c. search rules)
     -- returns
     (λ c.
-    let after_keep = c.before.before.before in let after_take_turns = after_keep.before.before.before.before in
-    ((after_keep.keep.ensures.0, after_take_turns.take-turns.ensures.0.2), kept_moved after_keep.keep.ensures.1 after_take_turns.take-turns.ensures.1)))
+    ((c.keep-kept.ensures.0, c.take_turns-turns.ensures.0.2), kept_moved c.keep-kept.ensures.1 c.take_turns-turns.ensures.1)))

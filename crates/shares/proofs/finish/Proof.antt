@@ -9,14 +9,6 @@ use Rattle.shares.proofs.Turns.{count_words}
 use Rattle.shares.proofs.finish.Statement.{statement}
 use Rattle.shares.proofs.finish.Tie as tie
 
--- The places that lie behind a place.
-
-abbrev byte_at2_of_put_decimal : tie.After-put-decimal → tie.After-byte-at2
-byte_at2_of_put_decimal c = c.before.before
-
-abbrev put_decimal_of_put_byte_arg : tie.After-put-byte-arg → tie.After-put-decimal
-put_decimal_of_put_byte_arg c = c.before.before.before
-
 pub finish_spec : {M : Type 1} → statement M
 finish_spec =
     tie.close
@@ -33,20 +25,17 @@ finish_spec =
     (λ c κs. search rules)
     -- put-byte-requires
     (λ c κs.
-    let after_put_decimal = put_decimal_of_put_byte_arg c in let after_byte_at2 = byte_at2_of_put_decimal after_put_decimal in
-    let d = decimal_machine (256 * after_byte_at2.before.byte_at.result + after_byte_at2.byte-at2.result) (omega arith) in omega (arith, after_put_decimal.put-decimal.ensures.ends))
+    let d = decimal_machine (256 * c.byte_at.result + c.byte_at-2.result) (omega arith) in omega (arith, c.put_decimal-to.ensures.ends))
     -- added-requires
     (λ c κs. search rules)
     -- same-length
     (λ c. search rules)
     -- returns
     (λ c.
-    let after_put_byte = c.before.before.before.before in let after_put_decimal = put_decimal_of_put_byte_arg after_put_byte.before in
-    let after_byte_at2 = byte_at2_of_put_decimal after_put_decimal in let after_byte_at = after_byte_at2.before in
-    let d = decimal_machine (256 * after_byte_at.byte_at.result + after_byte_at2.byte-at2.result) (omega arith) in record {
-      wrote = writes_as (count_words _ after_byte_at.byte_at.ensures.0 after_byte_at2.byte-at2.ensures.0)
-          (writes_then after_put_decimal.put-decimal.ensures after_put_byte.put_byte.ensures);
-      short = omega (arith, after_put_decimal.put-decimal.ensures.ends, after_put_byte.put_byte.ensures.ends);
-      leaves = c.before.added.ensures.leaves;
+    let d = decimal_machine (256 * c.byte_at.result + c.byte_at-2.result) (omega arith) in record {
+      wrote = writes_as (count_words _ c.byte_at.ensures.0 c.byte_at-2.ensures.0)
+          (writes_then c.put_decimal-to.ensures c.put_byte-end.ensures);
+      short = omega (arith, c.put_decimal-to.ensures.ends, c.put_byte-end.ensures.ends);
+      leaves = c.added-step.ensures.leaves;
       going = refl;
     }))

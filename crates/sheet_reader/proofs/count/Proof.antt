@@ -10,8 +10,8 @@ count_spec =
     tie.close
     (tie.spec
     -- shared-slice-read-result
-    (λ c. omega (arith, laid_length _ c.before.requires))
+    (λ c. omega (arith, laid_length _ c.requires))
     -- cast-result
-    (λ c. omega (arith, c.shared-slice-known.given 0))
+    (λ c. omega (arith, c.shared_slice_known-1.given 0))
     -- returns
-    (λ c. (refl, sym (laid_length _ c.before.requires))))
+    (λ c. (refl, sym (laid_length _ c.requires))))

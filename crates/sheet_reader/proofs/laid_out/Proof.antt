@@ -8,7 +8,7 @@ use Rattle.ordering.proofs.Sheets.{laid_empty}
 use Rattle.sheet_reader.proofs.laid_out.Statement.{statement}
 use Rattle.sheet_reader.proofs.laid_out.Tie as tie
 
-returns_2 : tie.Need-returns-2
+returns_2 : tie.Need-returns
 unfolding laid_out ◌and◌
 returns_2 c = search rules
 
@@ -17,13 +17,13 @@ laid_out_spec =
     tie.close
     (tie.spec
     -- returns
-    (λ c. sym (laid_empty _ c.if1.true))
+    (λ c. sym (laid_empty _ c.if-n-eq0.true))
     -- shared-slice-read-count
     (λ c. search rules)
     -- cast-count
-    (λ c. omega (arith, c.shared-slice-known.given 0))
+    (λ c. omega (arith, c.shared_slice_known-1.given 0))
     -- mul-result
-    (λ c. omega (arith, c.shared-slice-known.given 0))
+    (λ c. omega (arith, c.shared_slice_known-1.given 0))
     -- add-result
-    (λ c. omega (arith, c.shared-slice-known.given 0))
+    (λ c. omega (arith, c.shared_slice_known-1.given 0))
     returns_2)

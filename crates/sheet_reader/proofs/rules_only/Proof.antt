@@ -11,13 +11,13 @@ use Rattle.sheet_reader.proofs.Turns.{every_end, every_fails, every_next}
 use Rattle.sheet_reader.proofs.rules_only.Statement.{statement}
 use Rattle.sheet_reader.proofs.rules_only.Tie as tie
 
-abbrev invariant-loop : tie.invariant-loop
-invariant-loop sheet i₀ i = rules_only sheet ≡ all is_rule (drop i sheet)
+abbrev invariant-loop-i : tie.invariant-loop-i
+invariant-loop-i sheet i₀ i = rules_only sheet ≡ all is_rule (drop i sheet)
 
-abbrev decreases-loop : tie.decreases-loop
-decreases-loop sheet i₀ i = length sheet - i
+abbrev decreases-loop-i : tie.decreases-loop-i
+decreases-loop-i sheet i₀ i = length sheet - i
 
-loop_holds : tie.Need-loop-init invariant-loop decreases-loop
+loop_holds : tie.Need-loop-i-init invariant-loop-i decreases-loop-i
 unfolding rules_only
 loop_holds c = refl
 
@@ -25,23 +25,23 @@ pub rules_only_spec : {M : Type 1} → statement M
 rules_only_spec =
     tie.close
     (tie.spec
-    invariant-loop
-    decreases-loop
+    invariant-loop-i
+    decreases-loop-i
     loop_holds
     -- shared-slice-read-is-rule
     (λ c. omega arith)
     -- is-rule-requires
     (λ c κs. search rules)
     -- returns
-    (λ c. sym (c.before.before.before.before.loop.invariant
-    ∙ every_fails is_rule c.before.before.before.before.before.before.args.sheet.now c.before.before.before.before.loop.i
-    (omega arith) (sym c.before.is-rule.ensures ∙ not-true _ c.if1.true)))
+    (λ c. sym (c.loop-i.invariant
+    ∙ every_fails is_rule c.args.sheet.now c.loop-i.i
+    (omega arith) (sym c.is_rule.ensures ∙ c.if-not-is_rule.true)))
     -- add-i
     (λ c. omega arith)
     -- loop-less
     (λ c. omega arith)
     -- loop-again
-    (λ c. c.before.before.before.before.loop.invariant ∙ every_next is_rule c.before.before.before.before.before.before.args.sheet.now
-    c.before.before.before.before.loop.i (omega arith) (sym c.before.is-rule.ensures ∙ not-false _ c.if1.false))
+    (λ c. c.loop-i.invariant ∙ every_next is_rule c.args.sheet.now
+    c.loop-i.i (omega arith) (sym c.is_rule.ensures ∙ c.if-not-is_rule.false))
     -- returns-2
-    (λ c. sym (c.before.loop.invariant ∙ every_end is_rule c.before.before.before.args.sheet.now c.before.loop.i (omega arith))))
+    (λ c. sym (c.loop-i.invariant ∙ every_end is_rule c.args.sheet.now c.loop-i.i (omega arith))))

@@ -7,7 +7,7 @@ use Rattle.start.proofs.start.Tie as tie
 
 returns : tie.Need-returns
 unfolding path_of pairs_of
-returns c = c.start-in.ensures.0
+returns c = c.start_in-count.ensures.0
 
 pub start_spec : {M : Type 1} → statement M
 start_spec =

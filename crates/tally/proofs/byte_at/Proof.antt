@@ -17,4 +17,4 @@ byte_at_spec =
     -- returns
     (λ c. search rules)
     -- returns-2
-    (λ c. (sym (get_or-eq_default c.before.before.args.bytes.now 0 c.if1.false), omega arith)))
+    (λ c. (sym (get_or-eq_default c.args.bytes.now 0 c.if-at-bytes.false), omega arith)))

@@ -8,19 +8,19 @@ use Rattle.tally.proofs.count_line.Tie as tie
 
 -- The places that lie behind a place.
 
-abbrev start_of_counts : tie.After-counts → tie.Start
-start_of_counts c = c.before.before.before
+abbrev start_of_counts : tie.After-counts-1 → tie.Start
+start_of_counts c = c.before.before.before.before
 
 pub count_line_spec : {M : Type 1} → statement M
 count_line_spec =
     tie.close
     (tie.spec
     -- returns
-    (λ c. raised_low _ _ c.if1.true)
+    (λ c. raised_low _ _ c.if-kind-lt1.true)
     -- returns-2
     (λ c.
-    let start = c.before.before in
-    raised_high start.args.counts.now start.args.kind (omega arith) c.if2.true)
+    let start = c in
+    raised_high start.args.counts.now start.args.kind (omega arith) c.if-kind-gt8.true)
     -- mul-counts
     (λ c. search rules)
     -- element-copy-out-counts
@@ -28,7 +28,7 @@ count_line_spec =
     -- add-counts
     (λ c.
     let start = start_of_counts c in
-    omega (arith, at_most start.args.counts.now start.pre.0 start.args.kind))
+    omega (arith, at_most start.args.counts.now start.requires.0 start.args.kind))
     -- mul-counts-2
     (λ c. search rules)
     -- element-write-counts

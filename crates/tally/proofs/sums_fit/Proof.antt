@@ -9,18 +9,18 @@ use Rattle.tally.proofs.Counts.{fits-here, fits_not, fits-end}
 use Rattle.tally.proofs.sums_fit.Statement.{statement}
 use Rattle.tally.proofs.sums_fit.Tie as tie
 
-abbrev invariant-loop : tie.invariant-loop
-invariant-loop counts more k₀ k = (k ≤ 8) × (length counts ≡ 8) × (length more ≡ 8) × (fits (plus (drop k counts) (drop k more)) ≡ fits (plus counts more))
+abbrev invariant-loop-k : tie.invariant-loop-k
+invariant-loop-k counts more k₀ k = (k ≤ 8) × (length counts ≡ 8) × (length more ≡ 8) × (fits (plus (drop k counts) (drop k more)) ≡ fits (plus counts more))
 
-abbrev decreases-loop : tie.decreases-loop
-decreases-loop counts more k₀ k = 8 - k
+abbrev decreases-loop-k : tie.decreases-loop-k
+decreases-loop-k counts more k₀ k = 8 - k
 
 pub sums_fit_spec : {M : Type 1} → statement M
 sums_fit_spec =
     tie.close
     (tie.spec
-    invariant-loop
-    decreases-loop
+    invariant-loop-k
+    decreases-loop-k
     -- loop-holds
     (λ c. (omega arith, omega arith, omega arith, refl))
     -- mul-wide-count
@@ -39,17 +39,17 @@ sums_fit_spec =
     (λ c. search rules)
     -- returns
     (λ c.
-    let at_loop = c.before.before.before.before in let start = at_loop.before in
-    (sym (fits_not start.args.t1 start.args.t2 at_loop.loop.k (omega arith) (omega arith) (omega arith)) ∙ at_loop.loop.invariant.3, at_loop.loop.invariant.1))
+    let at_loop = c in let start = at_loop in
+    (sym (fits_not start.args.counts start.args.more at_loop.loop-k.k (omega arith) (omega arith) (omega arith)) ∙ at_loop.loop-k.invariant.3, at_loop.loop-k.invariant.1))
     -- add-k
     (λ c. search rules)
     -- loop-less
     (λ c. search rules)
     -- loop-again
     (λ c.
-    let at_loop = c.before.before.before.before in let start = at_loop.before in
-    (omega arith, omega arith, omega arith, sym (fits-here start.args.t1 start.args.t2 at_loop.loop.k (omega arith) (omega arith) (omega arith)) ∙ at_loop.loop.invariant.3))
+    let at_loop = c in let start = at_loop in
+    (omega arith, omega arith, omega arith, sym (fits-here start.args.counts start.args.more at_loop.loop-k.k (omega arith) (omega arith) (omega arith)) ∙ at_loop.loop-k.invariant.3))
     -- returns-2
     (λ c.
-    let at_loop = c.before in let start = at_loop.before in
-    (sym (fits-end start.args.t1 start.args.t2 at_loop.loop.k (omega arith)) ∙ at_loop.loop.invariant.3, at_loop.loop.invariant.1)))
+    let at_loop = c in let start = at_loop in
+    (sym (fits-end start.args.counts start.args.more at_loop.loop-k.k (omega arith)) ∙ at_loop.loop-k.invariant.3, at_loop.loop-k.invariant.1)))

@@ -12,6 +12,6 @@ argument_spec =
     tie.close
     (tie.spec
     -- returns
-    (λ c. sym (cond-true _ _ (eq-eqb _ _ c.if1.true)))
+    (λ c. sym (cond-true _ _ (eq-eqb _ _ c.if-byte-eq255.true)))
     -- returns-2
-    (λ c. sym (cond-false _ _ (ne_eqb _ _ c.if1.false))))
+    (λ c. sym (cond-false _ _ (ne_eqb _ _ c.if-byte-eq255.false))))

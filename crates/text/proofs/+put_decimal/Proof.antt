@@ -16,7 +16,7 @@ use Rattle.text.proofs.+put_decimal.Tie.{close}
 
 -- The places that lie behind a place.
 module _ {K : put_decimal_lts.Claims} {P : In 1 put_decimal_kinds.ps} where
-  abbrev put_decimal_of_digit2 : put_decimal_lts.After-digit2 K P put_decimal.Post → put_decimal_lts.After-put-decimal K P put_decimal.Post
+  abbrev put_decimal_of_digit2 : put_decimal_lts.After-digit-2 K P put_decimal.Post → put_decimal_lts.After-put_decimal-to K P put_decimal.Post
   put_decimal_of_digit2 c = c.before.before.before.before
 
 abbrev μ_put_decimal : Measures 1 put_decimal_kinds.ps ℕ
@@ -46,11 +46,11 @@ pub +put_decimal_spec : {M : Type 1} → statement M
     -- put-decimal-put-byte-requires
     (λ c κs. omega arith)
     -- put-decimal-same-length
-    (λ c. writes_length c.before.before.put_byte.ensures)
+    (λ c. writes_length c.put_byte.ensures)
     -- put-decimal-returns
     (λ c.
-    let after_digit = c.before.before.before in
-    writes_as (decimal_one _ after_digit.before.before.if1.true after_digit.digit.ensures) c.before.before.put_byte.ensures)
+    let after_digit = c in
+    writes_as (decimal_one _ after_digit.if-k-lt10.true after_digit.digit.ensures) c.put_byte.ensures)
     -- put-decimal-put-decimal-requires
     (λ c κs. (omega arith, omega arith))
     -- put-decimal-digit-requires-2
@@ -58,11 +58,11 @@ pub +put_decimal_spec : {M : Type 1} → statement M
     -- put-decimal-put-byte-requires-2
     (λ c κs.
     let after_put_decimal = put_decimal_of_digit2 c in
-    let l = decimal_tenth after_put_decimal.before.before.before.before.args.k (omega arith) in omega (arith, after_put_decimal.put-decimal.ensures.ends))
+    let l = decimal_tenth after_put_decimal.args.k (omega arith) in omega (arith, after_put_decimal.put_decimal-to.ensures.ends))
     -- put-decimal-same-length-2
-    (λ c. writes_length c.before.before.put-byte2.ensures ∙ writes_length (put_decimal_of_digit2 c.before.before.before).put-decimal.ensures)
+    (λ c. writes_length c.put_byte-2.ensures ∙ writes_length (put_decimal_of_digit2 c.before.before.before).put_decimal-to.ensures)
     -- put-decimal-returns-2
     (λ c.
-    let after_digit2 = c.before.before.before in let after_put_decimal = put_decimal_of_digit2 after_digit2 in
-    writes_as (decimal_last _ after_put_decimal.before.before.if1.left after_digit2.digit2.ensures)
-    (writes_then after_put_decimal.put-decimal.ensures c.before.before.put-byte2.ensures))
+    let after_digit2 = c in let after_put_decimal = put_decimal_of_digit2 after_digit2.before.before.before in
+    writes_as (decimal_last _ after_put_decimal.if-k-lt10.false after_digit2.digit-2.ensures)
+    (writes_then after_put_decimal.put_decimal-to.ensures c.put_byte-2.ensures))

@@ -12,8 +12,8 @@ hex_digit_spec =
     -- add-result
     (λ c. search rules)
     -- returns
-    (λ c. sym (hex_digit_low _ c.if1.true))
+    (λ c. sym (hex_digit_low _ c.if-d-lt10.true))
     -- add-result-2
     (λ c. search rules)
     -- returns-2
-    (λ c. sym (hex_digit_high _ c.if1.false)))
+    (λ c. sym (hex_digit_high _ c.if-d-lt10.false)))

@@ -20,4 +20,4 @@ put_byte_spec =
     -- add-result-2
     (λ c. search rules)
     -- returns-2
-    (λ c. record { leaves = sym (write_at_out _ _ _ c.if1.false); ends = refl }))
+    (λ c. record { leaves = sym (write_at_out _ _ _ c.if-at-buffer.false); ends = refl }))

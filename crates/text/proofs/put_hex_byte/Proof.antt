@@ -7,7 +7,7 @@ use Rattle.text.proofs.put_hex_byte.Tie as tie
 
 -- The places that lie behind a place.
 
-abbrev put_byte2_of_slice_known3 : tie.After-slice-known3 → tie.After-put-byte2
+abbrev put_byte2_of_slice_known3 : tie.After-slice_known-3-1 → tie.After-put_byte
 put_byte2_of_slice_known3 c = c.before.before
 
 pub put_hex_byte_spec : {M : Type 1} → statement M
@@ -26,7 +26,7 @@ put_hex_byte_spec =
     (λ c. search rules)
     -- returns
     (λ c.
-    let after_put_byte2 = put_byte2_of_slice_known3 c in let after_hex_digit2 = after_put_byte2.before in
-    let after_put_byte = after_hex_digit2.before.before.before.before in
-    writes_as (hex_pair _ after_put_byte.before.hex-digit.ensures after_hex_digit2.hex-digit2.ensures)
-    (writes_then after_put_byte.put_byte.ensures after_put_byte2.put-byte2.ensures)))
+    let after_put_byte2 = put_byte2_of_slice_known3 c in let after_hex_digit2 = after_put_byte2 in
+    let after_put_byte = after_hex_digit2 in
+    writes_as (hex_pair _ after_put_byte.hex_digit.ensures after_hex_digit2.hex_digit-2.ensures)
+    (writes_then after_put_byte.put_byte-to.ensures after_put_byte2.put_byte.ensures)))

@@ -125,7 +125,7 @@ module _ {A : Type 0} (p : A → Bool) where
   any-true (x ∷ xs) h =
       ⊎_elim (λ e. (x, Memᴰ.head refl, e)) (λ e. let r = any-true xs e in (r.0, Memᴰ.tail r.1, r.2)) (or_cases (p x) (any p xs) h)
 
-  pub any_intro : {xs : List A} (x : A) → Memᴰ x xs → p x ≡ true → any p xs ≡ true
+  pub any_intro : (x : A) {xs : List A} → Memᴰ x xs → p x ≡ true → any p xs ≡ true
   unfolding any
   any_intro x (Memᴰ.head {x = y} {xs = xs} e) h = or_left (any p xs) (ap p (sym e) ∙ h)
   any_intro x (Memᴰ.tail {x = y} {xs = xs} m) h = or_right (p y) (any_intro x m h)
@@ -133,7 +133,7 @@ module _ {A : Type 0} (p : A → Bool) where
   pub any_false : {xs : List A} (x : A) → any p xs ≡ false → Memᴰ x xs → p x ≡ false
   any_false x h m = not_of (λ e. true-false (any_intro x m e) h)
 
-  pub all_true : {xs : List A} (x : A) → all p xs ≡ true → Memᴰ x xs → p x ≡ true
+  pub all_true : (x : A) {xs : List A} → all p xs ≡ true → Memᴰ x xs → p x ≡ true
   unfolding all
   all_true x h (Memᴰ.head {x = y} {xs = xs} e) = ap p e ∙ and_left (p y) (all p xs) h
   all_true x h (Memᴰ.tail {x = y} {xs = xs} m) = all_true x (and_right (p y) (all p xs) h) m
@@ -161,7 +161,7 @@ module _ {A : Type 0} (p : A → Bool) where
       go true e ih m = ⊎_elim (λ q. (Memᴰ.head q, ap p q ∙ e)) (λ n. let r = ih n in (Memᴰ.tail r.0, r.1)) (Memᴰ.cases_cons m)
       go false e ih m = let r = ih m in (Memᴰ.tail r.0, r.1)
 
-  pub select_intro : {xs : List A} (x : A) → Memᴰ x xs → p x ≡ true → Memᴰ x (select p xs)
+  pub select_intro : (x : A) {xs : List A} → Memᴰ x xs → p x ≡ true → Memᴰ x (select p xs)
   unfolding select
   select_intro x (Memᴰ.head {x = y} {xs = xs} e) h = rw (ap p (sym e) ∙ h) (Memᴰ.head e)
   select_intro x (Memᴰ.tail {x = y} {xs = xs} m) h = go (p y) (select_intro x m h)
@@ -198,7 +198,7 @@ module _ {A B : Type 0} (f : A → Option B) where
       ⊎_elim (λ e. (x, Memᴰ.head refl, e)) (λ e. let r = first_of-some xs b e.1 in (r.0, Memᴰ.tail r.1, r.2))
       (or_else_cases (f x) (first_of f xs) b h)
 
-  pub first_of-none : {xs : List A} (x : A) → first_of f xs ≡ none → Memᴰ x xs → f x ≡ none
+  pub first_of-none : (x : A) {xs : List A} → first_of f xs ≡ none → Memᴰ x xs → f x ≡ none
   unfolding first_of
   first_of-none x h (Memᴰ.head {x = y} {xs = xs} e) = ap f e ∙ (or_else-none (f y) (first_of f xs) h).0
   first_of-none x h (Memᴰ.tail {x = y} {xs = xs} m) = first_of-none x (or_else-none (f y) (first_of f xs) h).1 m
@@ -271,7 +271,7 @@ module _ {A B : Type 0} (f : A → List B) where
   flat_map-mem b [] m = absurd (Memᴰ.not-nil m)
   flat_map-mem b (x ∷ xs) m = ⊎_elim (λ n. (x, Memᴰ.head refl, n)) (λ n. let r = flat_map-mem b xs n in (r.0, Memᴰ.tail r.1, r.2)) (Memᴰ.append_cases (f x) m)
 
-  pub flat_map_intro : {xs : List A} (x : A) (b : B) → Memᴰ x xs → Memᴰ b (f x) → Memᴰ b (flat_map f xs)
+  pub flat_map_intro : (x : A) {xs : List A} (b : B) → Memᴰ x xs → Memᴰ b (f x) → Memᴰ b (flat_map f xs)
   unfolding flat_map
   flat_map_intro x b (Memᴰ.head {x = y} {xs = xs} e) n = Memᴰ.append_left (flat_map f xs) (subst (λ (z : A). Memᴰ b (f z)) e n)
   flat_map_intro x b (Memᴰ.tail {x = y} {xs = xs} m) n = Memᴰ.append_right (f y) (flat_map_intro x b m n)
@@ -281,7 +281,7 @@ module _ {A B : Type 0} (f : A → B) where
   map-mem b [] m = absurd (Memᴰ.not-nil m)
   map-mem b (x ∷ xs) m = ⊎_elim (λ e. (x, Memᴰ.head refl, e)) (λ n. let r = map-mem b xs n in (r.0, Memᴰ.tail r.1, r.2)) (Memᴰ.cases_cons m)
 
-  pub map_intro : {xs : List A} (x : A) → Memᴰ x xs → Memᴰ (f x) (map f xs)
+  pub map_intro : (x : A) {xs : List A} → Memᴰ x xs → Memᴰ (f x) (map f xs)
   map_intro x (Memᴰ.head {x = y} {xs = xs} e) = Memᴰ.head (ap f e)
   map_intro x (Memᴰ.tail {x = y} {xs = xs} m) = Memᴰ.tail (map_intro x m)
 

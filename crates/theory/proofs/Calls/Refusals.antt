@@ -75,7 +75,7 @@ query-placed i = both_placed 561 (map (layout_check sections) layout_numbers) (m
 -- none of these checks is that of the report's room
 not_nine : (k : ℕ) → LayoutNumber k → k ≡ 9 → ⊥
 unfolding layout_numbers all ◌and◌
-not_nine k m e = false≢true (subst (λ (x : ℕ). not (eqb x 9) ≡ true) e (all_true (λ x. not (eqb x 9)) {xs = layout_numbers} k refl m))
+not_nine k m e = false≢true (subst (λ (x : ℕ). not (eqb x 9) ≡ true) e (all_true (λ x. not (eqb x 9)) k {xs = layout_numbers} refl m))
 
 query-not_nine : (c : Check) → Memᴰ c query_checks → c.number ≡ 9 → ⊥
 unfolding query_checks layout_check byte_check

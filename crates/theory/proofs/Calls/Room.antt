@@ -36,7 +36,7 @@ module _ (f : CallForm) (laws : FormLaws f) where
 
   nine_checked : Memᴰ 9 (numbers (verdict_checks_of f))
   unfolding verdict_checks_of room_under
-  nine_checked = map_intro (λ (c : Check). c.number) {xs = verdict_checks_of f} (room_under f.room) (Memᴰ.tail (Memᴰ.append_right f.checks (Memᴰ.head refl)))
+  nine_checked = map_intro (λ (c : Check). c.number) (room_under f.room) {xs = verdict_checks_of f} (Memᴰ.tail (Memᴰ.append_right f.checks (Memᴰ.head refl)))
 
   pub room_enough : (i : Input) → f.room ≤ i.room → (place : ℕ) → (verdict_call_of f i).answer ≡ refused 9 place → ⊥
   room_enough i l place h =

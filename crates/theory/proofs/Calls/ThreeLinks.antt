@@ -115,7 +115,7 @@ link_placed i =
 
 link_early : (k : ℕ) → Memᴰ k (numbers link_checks) → (Early k) × (k ≡ 9 → ⊥)
 unfolding link_checks link_check layout_check byte_check all ◌and◌ ◌or◌
-link_early k m = (early_of (numbers link_checks) refl k m, λ e. false≢true (subst (λ (x : ℕ). not (eqb x 9) ≡ true) e (all_true (λ x. not (eqb x 9)) {xs = numbers link_checks} k refl m)))
+link_early k m = (early_of (numbers link_checks) refl k m, λ e. false≢true (subst (λ (x : ℕ). not (eqb x 9) ≡ true) e (all_true (λ x. not (eqb x 9)) k {xs = numbers link_checks} refl m)))
 
 pub three_link_laws : FormLaws three_link_form
 unfolding decode_links

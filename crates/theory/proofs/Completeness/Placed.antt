@@ -15,7 +15,7 @@ use Rattle.theory.proofs.Basics.Search.{bool_cases}
 pub use Rattle.theory.proofs.Basics.Count.{length_from}
 
 -- a member stands at some place, counted from 1
-pub at_mem : {A : Type 0} {xs : List A} (x : A) → Memᴰ x xs → (i : ℕ) × (i < length xs) × (at xs (suc i) ≡ some x)
+pub at_mem : {A : Type 0} (x : A) {xs : List A} → Memᴰ x xs → (i : ℕ) × (i < length xs) × (at xs (suc i) ≡ some x)
 unfolding at
 at_mem {A} x (Memᴰ.head {x = y} {xs = ys} e) = (0, omega arith, ap {B = Option A} some (sym e))
 at_mem x (Memᴰ.tail {x = y} {xs = ys} m) = let r = at_mem x m in (suc r.0, omega arith, r.2)
@@ -41,7 +41,7 @@ stands_later : (u v : ℕ) (us : List ℕ) → eqb u v ≡ false → Stands v us
 unfolding place_of
 stands_later u v us e r = record { index = suc r.index; within = omega arith; placed = rw e (ap suc r.placed); element = r.element }
 
-pub place_of-mem : {ts : List ℕ} (v : ℕ) → Memᴰ v ts → Stands v ts
+pub place_of-mem : (v : ℕ) {ts : List ℕ} → Memᴰ v ts → Stands v ts
 place_of-mem v (Memᴰ.head {x = u} {xs = us} e) = stands_here u v us (sym e)
 place_of-mem v (Memᴰ.tail {x = u} {xs = us} m) =
     ⊎_elim (λ e. stands_here u v us (eqb-true u v e)) (λ e. stands_later u v us e (place_of-mem v m)) (bool_cases (eqb u v))

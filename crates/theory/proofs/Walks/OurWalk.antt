@@ -17,7 +17,7 @@ use Rattle.theory.proofs.Walks.Gains.{applies-step}
 
 -- Steps in front of others
 
-pub steps_first : {n k : ℕ} {s s' s'' : Facts} → Step n s s' → Steps n s' k s'' → Steps n s (suc k) s''
+pub steps_first : {n : ℕ} {s s' s'' : Facts} {k : ℕ} → Step n s s' → Steps n s' k s'' → Steps n s (suc k) s''
 steps_first step at_first = one_more at_first step
 steps_first step (one_more steps last) = one_more (steps_first step steps) last
 

@@ -24,4 +24,4 @@ ahead_spec =
     -- without-requires
     (λ c κs. search rules)
     -- returns
-    (λ c. let s = c.before.before.before in λ z h. third_scc [] s.args.reach.now s.args.back.now s.requires.1 s.args.x 0 z s.requires.0 (omega arith) h _ c.without.ensures))
+    (λ c. λ z h. third_scc [] c.args.reach.now c.args.back.now c.requires.1 c.args.x 0 z c.requires.0 (omega arith) h _ c.without.ensures))

@@ -11,6 +11,6 @@ alone_spec =
     -- only-requires
     (λ c κs. search rules)
     -- returns
-    (λ c. alone_in _ _ c.before.if1.true c.only.ensures)
+    (λ c. alone_in _ _ c.if-b-lt17.true c.only.ensures)
     -- returns-2
-    (λ c. alone_above _ c.if1.false))
+    (λ c. alone_above _ c.if-b-lt17.false))

@@ -16,17 +16,15 @@ around_spec =
     (λ c κs. search rules)
     -- follow-requires
     (λ c κs.
-    let start = c.before in
-    let l = next_le start.args.n (links_in start.args.link.now) start.args.x in let e = c.next.ensures in (omega arith, omega arith))
+    let l = next_le c.args.n (links_in c.args.link.now) c.args.x in let e = c.next-first.ensures in (omega arith, omega arith))
     -- add-k
-    (λ c. let l = steps_bound _ _ _ _ _ _ c.before.follow.ensures.0 in omega arith)
+    (λ c. let l = steps_bound _ _ _ _ _ _ c.follow-back.ensures.0 in omega arith)
     -- returns
     (λ c.
-    let start = c.before.before.before.before in
     record {
       steps_within = omega arith;
-      on_round = on_none _ start.args.link.now start.args.reach.now _;
-      off_round = λ lives y h. off_none _ start.args.link.now start.args.reach.now _ lives y;
+      on_round = on_none _ c.args.link.now c.args.reach.now _;
+      off_round = λ lives y h. off_none _ c.args.link.now c.args.reach.now _ lives y;
     })
     -- only-requires
     (λ c κs. search rules)
@@ -38,13 +36,11 @@ around_spec =
     (λ c κs. search rules)
     -- returns-2
     (λ c.
-    let after_only = c.before.before.before in let after_follow = after_only.before.before.before in
-    let after_next = after_follow.before in let start = after_next.before in
-    let f = after_follow.follow.ensures in
+    let f = c.follow-back.ensures in
     record {
       steps_within = omega arith;
-      on_round = on_bits start.args.n start.args.link.now start.args.reach.now start.args.x _ _ _ _ _ after_next.next.ensures
-          f.0 refl (omega arith) f.2 after_only.only.ensures;
-      off_round = off_bits start.args.n start.args.link.now start.args.reach.now start.args.x _ _ _ _ _ after_next.next.ensures
-          f.0 refl (omega arith) f.2 after_only.only.ensures _ c.without.ensures start.requires.1;
+      on_round = on_bits c.args.n c.args.link.now c.args.reach.now c.args.x _ _ _ _ _ c.next-first.ensures
+          f.0 refl (omega arith) f.2 c.only.ensures;
+      off_round = off_bits c.args.n c.args.link.now c.args.reach.now c.args.x _ _ _ _ _ c.next-first.ensures
+          f.0 refl (omega arith) f.2 c.only.ensures _ c.without.ensures c.requires.1;
     }))

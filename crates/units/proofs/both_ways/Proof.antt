@@ -24,5 +24,4 @@ both_ways_spec =
     -- without-requires
     (λ c κs. search rules)
     -- returns
-    (λ c. let s = c.before.before.before.before in
-    λ y h. pair_mutual [] s.args.reach.now s.args.back.now s.requires.1 s.args.x s.requires.0 y h _ _ c.before.only.ensures c.without.ensures))
+    (λ c. λ y h. pair_mutual [] c.args.reach.now c.args.back.now c.requires.1 c.args.x c.requires.0 y h _ _ c.only.ensures c.without.ensures))

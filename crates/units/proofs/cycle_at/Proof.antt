@@ -6,18 +6,18 @@ use mathlib.Core.Path.{sym, ◌∙◌}
 use Rattle.units.proofs.cycle_at.Statement.{statement}
 use Rattle.units.proofs.cycle_at.Tie as tie
 
-abbrev invariant-loop : tie.invariant-loop
-invariant-loop off on no_equal y₀ y = y ≤ 17
+abbrev invariant-loop-y : tie.invariant-loop-y
+invariant-loop-y off on no_equal y₀ y = y ≤ 17
 
-abbrev decreases-loop : tie.decreases-loop
-decreases-loop off on no_equal y₀ y = 17 - y
+abbrev decreases-loop-y : tie.decreases-loop-y
+decreases-loop-y off on no_equal y₀ y = 17 - y
 
 pub cycle_at_spec : {M : Type 1} → statement M
 cycle_at_spec =
     tie.close
     (tie.spec
-    invariant-loop
-    decreases-loop
+    invariant-loop-y
+    decreases-loop-y
     -- loop-holds
     (λ c. omega arith)
     -- has-requires
@@ -30,14 +30,12 @@ cycle_at_spec =
     (λ c κs. search rules)
     -- returns
     (λ c.
-    let then1 = c.before.before.before in
-    (omega arith, sym then1.before.has.ensures ∙ then1.if1.true))
+    (omega arith, sym c.has.ensures ∙ c.if-has.true))
     -- sub-if3
     (λ c. omega arith)
     -- returns-2
     (λ c.
-    let then1 = c.before.before.before.before in
-    (omega arith, sym then1.before.has.ensures ∙ then1.if1.true))
+    (omega arith, sym c.has.ensures ∙ c.if-has.true))
     -- add-y
     (λ c. omega arith)
     -- loop-less

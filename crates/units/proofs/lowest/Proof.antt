@@ -16,4 +16,4 @@ lowest_spec =
     -- first-requires
     (λ c κs. search rules)
     -- returns
-    (λ c. c.first.ensures ∙ find_masked (bit c.before.before.args.row) 16 _ _ (omega arith) (λ i h. refl) c.before.up_to.ensures))
+    (λ c. c.first.ensures ∙ find_masked (bit c.args.row) 16 _ _ (omega arith) (λ i h. refl) c.up_to.ensures))

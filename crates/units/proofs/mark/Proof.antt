@@ -19,7 +19,6 @@ mark_spec =
     (λ c. search rules)
     -- returns
     (λ c.
-    let start = c.before.before in
-    (row_marked _ _ _ start.requires c.before.if1.true, simp length-set start.requires))
+    (row_marked _ _ _ c.requires c.if-a-lt17.true, simp length-set c.requires))
     -- returns-2
-    (λ c. (row_kept _ _ _ c.if1.false, c.before.requires)))
+    (λ c. (row_kept _ _ _ c.if-a-lt17.false, c.requires)))

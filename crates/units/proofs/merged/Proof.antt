@@ -9,26 +9,21 @@ use Rattle.units.proofs.Marks.{Merging, merged_more, merged_all}
 use Rattle.units.proofs.merged.Statement.{statement}
 use Rattle.units.proofs.merged.Tie as tie
 
-abbrev invariant-loop : tie.invariant-loop
-invariant-loop a b c out₀ x₀ out x = (x ≤ 17) × (length out ≡ 17) × Merging a b c x out
+abbrev invariant-loop-x : tie.invariant-loop-x
+invariant-loop-x a b c out₀ x₀ out x = (x ≤ 17) × (length out ≡ 17) × Merging a b c x out
 
-abbrev decreases-loop : tie.decreases-loop
-decreases-loop a b c out₀ x₀ out x = 17 - x
+abbrev decreases-loop-x : tie.decreases-loop-x
+decreases-loop-x a b c out₀ x₀ out x = 17 - x
 
--- The places that lie behind a place.
-
-abbrev at_loop_of_mark_arg3 : tie.After-mark-arg3 invariant-loop decreases-loop → tie.At-loop invariant-loop decreases-loop
-at_loop_of_mark_arg3 c = c.before.before.before.before.before
-
-whole : (c : tie.After-loop invariant-loop decreases-loop) → c.before.loop.x ≡ 17
+whole : (c : tie.After-loop-x invariant-loop-x decreases-loop-x) → c.loop-x.x ≡ 17
 whole c = omega arith
 
 pub merged_spec : {M : Type 1} → statement M
 merged_spec =
     tie.close
     (tie.spec
-    invariant-loop
-    decreases-loop
+    invariant-loop-x
+    decreases-loop-x
     -- loop-holds
     (λ c. (omega arith, search rules, filled_none _ _))
     -- mul-marked
@@ -44,14 +39,14 @@ merged_spec =
     -- element-copy-out-marked-3
     (λ c. omega arith)
     -- mark-requires
-    (λ c κs. (at_loop_of_mark_arg3 c).loop.invariant.1)
+    (λ c κs. c.loop-x.invariant.1)
     -- add-x
     (λ c. omega arith)
     -- loop-less
     (λ c. omega arith)
     -- loop-again
     (λ c.
-    let l = (at_loop_of_mark_arg3 c.before).loop in
-    (omega arith, c.mark.ensures.1, merged_more _ _ _ l.x _ _ (omega arith) c.mark.ensures.0 l.inv.2))
+    let l = c.loop-x in
+    (omega arith, c.mark.ensures.1, merged_more _ _ _ l.x _ _ (omega arith) c.mark.ensures.0 l.invariant.2))
     -- returns
-    (λ c. merged_all _ _ _ _ (rw (whole c) at c.before.loop.invariant.2)))
+    (λ c. merged_all _ _ _ _ (rw (whole c) at c.loop-x.invariant.2)))

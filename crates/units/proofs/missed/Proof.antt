@@ -7,11 +7,6 @@ use Rattle.rules.proofs.Rows.{third_func}
 use Rattle.units.proofs.missed.Statement.{statement}
 use Rattle.units.proofs.missed.Tie as tie
 
--- The places that lie behind a place.
-
-abbrev without_of_without2 : tie.After-without2 → tie.After-without
-without_of_without2 c = c.before.before
-
 pub missed_spec : {M : Type 1} → statement M
 unfolding graph_of third_test
 missed_spec =
@@ -33,6 +28,5 @@ missed_spec =
     (λ c κs. search rules)
     -- returns
     (λ c.
-    let after_without = without_of_without2 c in let after_only = after_without.before in let start = after_only.before.before in
-    λ z h. third_func [] start.args.reach.now start.args.x start.args.y z start.pre.0 start.pre.1 h _ _ _
-    after_only.only.ensures after_without.without.ensures c.without2.ensures))
+    λ z h. third_func [] c.args.reach.now c.args.x c.args.y z c.requires.0 c.requires.1 h _ _ _
+    c.only.ensures c.without.ensures c.without-2.ensures))

@@ -6,35 +6,24 @@ use Rattle.units.proofs.Places.{lowest_in, lowest_left, scc_placed}
 use Rattle.units.proofs.scc.Statement.{statement}
 use Rattle.units.proofs.scc.Tie as tie
 
-abbrev invariant-loop : tie.invariant-loop
-invariant-loop reach back no_equal no_back x₀ x = x ≤ 17
+abbrev invariant-loop-x : tie.invariant-loop-x
+invariant-loop-x reach back no_equal no_back x₀ x = x ≤ 17
 
-abbrev decreases-loop : tie.decreases-loop
-decreases-loop reach back no_equal no_back x₀ x = 17 - x
-
--- The places that lie behind a place.
-
-abbrev start_of_in_loop : tie.In-loop invariant-loop decreases-loop → tie.Start invariant-loop decreases-loop
-start_of_in_loop c = c.before.before
-
-abbrev both_ways_of_lowest : tie.After-lowest invariant-loop decreases-loop → tie.After-both-ways invariant-loop decreases-loop
-both_ways_of_lowest c = c.before.before.before
-
-abbrev start_of_ahead : tie.After-ahead invariant-loop decreases-loop → tie.Start invariant-loop decreases-loop
-start_of_ahead c = start_of_in_loop c.before
+abbrev decreases-loop-x : tie.decreases-loop-x
+decreases-loop-x reach back no_equal no_back x₀ x = 17 - x
 
 pub scc_spec : {M : Type 1} → statement M
 scc_spec =
     tie.close
     (tie.spec
-    invariant-loop
-    decreases-loop
+    invariant-loop-x
+    decreases-loop-x
     -- loop-holds
     (λ c. omega arith)
     -- ahead-requires
-    (λ c κs. (omega arith, (start_of_in_loop c).requires))
+    (λ c κs. (omega arith, c.requires))
     -- both-ways-requires
-    (λ c κs. (omega arith, (start_of_ahead c).requires))
+    (λ c κs. (omega arith, c.requires))
     -- mul-lowest
     (λ c. omega arith)
     -- element-copy-out-lowest
@@ -49,12 +38,9 @@ scc_spec =
     (λ c. search rules)
     -- returns
     (λ c.
-    let after_lowest2 = c.before.before.before in let after_y = after_lowest2.before.before in
-    let after_lowest = after_y.before.before in let after_both_ways = both_ways_of_lowest after_lowest in
-    let after_ahead = after_both_ways.before in
-    λ n link s k e. scc_placed n link (start_of_ahead after_ahead).args.reach.now s k e _ _ _ _ _ (omega arith)
-    after_both_ways.both_ways.ensures (lowest_left _ _ after_y.y.given.1 _ _ after_lowest.lowest.ensures) after_ahead.ahead.ensures
-    (lowest_in _ _ c.before.z.given.1 _ after_lowest2.lowest2.ensures))
+    λ n link s k e. scc_placed n link c.args.reach.now s k e _ _ _ _ _ (omega arith)
+    c.both_ways-both.ensures (lowest_left _ _ c.in-At.is _ _ c.lowest.ensures) c.ahead-out.ensures
+    (lowest_in _ _ c.in-At-lowest.is _ c.lowest-in-At.ensures))
     -- enum-told
     (λ c. search rules)
     -- enum-told-2
@@ -73,12 +59,9 @@ scc_spec =
     (λ c. search rules)
     -- returns-2
     (λ c.
-    let after_lowest4 = c.before.before.before in let after_z2 = after_lowest4.before.before in
-    let after_lowest3 = after_z2.before.before in let after_both_ways = both_ways_of_lowest after_lowest3.before.before.before in
-    let after_ahead = after_both_ways.before in
-    λ n link s k e. scc_placed n link (start_of_ahead after_ahead).args.reach.now s k e _ _ _ _ _ (omega arith)
-    after_both_ways.both_ways.ensures (lowest_in _ _ c.before.y2.given.1 _ after_lowest4.lowest4.ensures) after_ahead.ahead.ensures
-    (lowest_left _ _ after_z2.z2.given.1 _ _ after_lowest3.lowest3.ensures))
+    λ n link s k e. scc_placed n link c.args.reach.now s k e _ _ _ _ _ (omega arith)
+    c.both_ways-both.ensures (lowest_in _ _ c.in-At-lowest-3.is _ c.lowest-in-At-lowest-2.ensures) c.ahead-out.ensures
+    (lowest_left _ _ c.in-At-lowest-2.is _ _ c.lowest-then-out-both.ensures))
     -- enum-told-3
     (λ c. search rules)
     -- enum-told-4

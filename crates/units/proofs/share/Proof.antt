@@ -7,31 +7,26 @@ use Rattle.units.proofs.Places.{lowest_in, share_placed}
 use Rattle.units.proofs.share.Statement.{statement}
 use Rattle.units.proofs.share.Tie as tie
 
-abbrev invariant-loop2 : tie.invariant-loop2
-invariant-loop2 link reach back x near both y₀ y = y ≤ 17
+abbrev invariant-loop-y : tie.invariant-loop-y
+invariant-loop-y link reach back x near both y₀ y = y ≤ 17
 
-abbrev decreases-loop2 : tie.decreases-loop2
-decreases-loop2 link reach back x near both y₀ y = 17 - y
+abbrev decreases-loop-y : tie.decreases-loop-y
+decreases-loop-y link reach back x near both y₀ y = 17 - y
 
-abbrev invariant-loop : tie.invariant-loop
-invariant-loop link reach back x₀ x = x ≤ 17
+abbrev invariant-loop-x : tie.invariant-loop-x
+invariant-loop-x link reach back x₀ x = x ≤ 17
 
-abbrev decreases-loop : tie.decreases-loop
-decreases-loop link reach back x₀ x = 17 - x
-
--- The places that lie behind a place.
-
-abbrev start_of_then1 : tie.Then1 invariant-loop2 decreases-loop2 invariant-loop decreases-loop → tie.Start invariant-loop2 decreases-loop2 invariant-loop decreases-loop
-start_of_then1 c = c.before.before.before.before
+abbrev decreases-loop-x : tie.decreases-loop-x
+decreases-loop-x link reach back x₀ x = 17 - x
 
 pub share_spec : {M : Type 1} → statement M
 share_spec =
     tie.close
     (tie.spec
-    invariant-loop2
-    decreases-loop2
-    invariant-loop
-    decreases-loop
+    invariant-loop-y
+    decreases-loop-y
+    invariant-loop-x
+    decreases-loop-x
     -- loop-holds
     (λ c. omega arith)
     -- mul-near
@@ -39,7 +34,7 @@ share_spec =
     -- element-copy-out-near
     (λ c. omega arith)
     -- both-ways-requires
-    (λ c κs. (omega arith, (start_of_then1 c).requires))
+    (λ c κs. (omega arith, c.requires))
     -- loop2-holds
     (λ c. omega arith)
     -- has-requires
@@ -54,10 +49,8 @@ share_spec =
     (λ c. search rules)
     -- returns
     (λ c.
-    let after_lowest = c.before.before.before in let then2 = after_lowest.before.before in let after_has = then2.before in
-    let after_both_ways = after_has.before.before.before in let start = start_of_then1 after_both_ways.before in
-    λ n s k e. share_placed n start.args.link.now start.args.reach.now s k e _ _ _ _ (omega arith) after_both_ways.both_ways.ensures
-    (omega arith, sym after_has.has.ensures ∙ then2.if2.true) (lowest_in _ _ c.before.z.given.1 _ after_lowest.lowest.ensures))
+    λ n s k e. share_placed n c.args.link.now c.args.reach.now s k e _ _ _ _ (omega arith) c.both_ways-both.ensures
+    (omega arith, sym c.has.ensures ∙ c.if-has.true) (lowest_in _ _ c.in-At.is _ c.lowest.ensures))
     -- enum-told
     (λ c. search rules)
     -- add-y

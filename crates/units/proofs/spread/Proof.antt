@@ -2,28 +2,28 @@
 use Prim.Native.Nat.{◌-◌, ◌≤◌}
 use native.Mathlib.Omega.{arith}
 use mathlib.Core.Path.{◌≡◌, sym, ap, ◌∙◌}
-use mathlib.Core.Logic.{⊎_elim}
 use lib.ListN.{length, length-set}
 use Rattle.rows.proofs.Fill.{filled_none}
 use Rattle.units.proofs.Marks.{Spreading, spread_more, spread_same, spread_all}
 use Rattle.units.proofs.spread.Statement.{statement}
+use Rattle.units.proofs.spread.Lts.{then-has, else-has}
 use Rattle.units.proofs.spread.Tie as tie
 
-abbrev invariant-loop : tie.invariant-loop
-invariant-loop rows₀ some more a₀ rows a = (a ≤ 17) × (length rows ≡ 17) × Spreading rows₀ some more a rows
+abbrev invariant-loop-a : tie.invariant-loop-a
+invariant-loop-a rows₀ some more a₀ rows a = (a ≤ 17) × (length rows ≡ 17) × Spreading rows₀ some more a rows
 
-abbrev decreases-loop : tie.decreases-loop
-decreases-loop rows₀ some more a₀ rows a = 17 - a
+abbrev decreases-loop-a : tie.decreases-loop-a
+decreases-loop-a rows₀ some more a₀ rows a = 17 - a
 
-whole : (c : tie.After-loop invariant-loop decreases-loop) → c.before.loop.a ≡ 17
+whole : (c : tie.After-loop-a invariant-loop-a decreases-loop-a) → c.loop-a.a ≡ 17
 whole c = omega arith
 
 pub spread_spec : {M : Type 1} → statement M
 spread_spec =
     tie.close
     (tie.spec
-    invariant-loop
-    decreases-loop
+    invariant-loop-a
+    decreases-loop-a
     -- loop-holds
     (λ c. (omega arith, c.requires, filled_none _ _))
     -- has-requires
@@ -42,17 +42,19 @@ spread_spec =
     (λ c. omega arith)
     -- loop-again
     (λ c.
-    let after_has = c.before in
-    let l = after_has.before.before.loop in
-    ⊎_elim
-    (λ w. (
-      omega arith,
-      ap length w.2 ∙ simp length-set l.invariant.1,
-      spread_more _ _ _ l.a _ _ (omega arith) l.invariant.1 (sym after_has.has.ensures ∙ w.0.taken) w.2 l.invariant.2,
-    ))
-    (λ w. (omega arith, ap length w.1 ∙ l.invariant.1, spread_same _ _ _ l.a _ _ (omega arith) (sym after_has.has.ensures ∙ w.0.left) w.1 l.invariant.2))
-    c.if1.branch)
+    let l = c.loop-a in
+    elim c.if-has.branch [
+      | then-has w ↦ (
+        omega arith,
+        ap length w.rows-is ∙ simp length-set l.invariant.1,
+        spread_more _ _ _ l.a _ _ (omega arith) l.invariant.1 (sym c.has.ensures ∙ w.if-has.true) w.rows-is l.invariant.2,
+      )
+      | else-has w ↦ (
+        omega arith,
+        ap length w.rows-is ∙ l.invariant.1,
+        spread_same _ _ _ l.a _ _ (omega arith) (sym c.has.ensures ∙ w.if-has.false) w.rows-is l.invariant.2,
+      )
+    ])
     -- returns
     (λ c.
-    let at_loop = c.before in
-    (spread_all _ _ _ _ (rw (whole c) at at_loop.loop.invariant.2), at_loop.loop.invariant.1)))
+    (spread_all _ _ _ _ (rw (whole c) at c.loop-a.invariant.2), c.loop-a.invariant.1)))

@@ -7,11 +7,6 @@ use Rattle.rules.proofs.Rows.{third_total}
 use Rattle.units.proofs.unordered.Statement.{statement}
 use Rattle.units.proofs.unordered.Tie as tie
 
--- The places that lie behind a place.
-
-abbrev without_of_without2 : tie.After-without2 → tie.After-without
-without_of_without2 c = c.before.before
-
 pub unordered_spec : {M : Type 1} → statement M
 unfolding graph_of third_test
 unordered_spec =
@@ -35,6 +30,5 @@ unordered_spec =
     (λ c κs. search rules)
     -- returns
     (λ c.
-    let after_without = without_of_without2 c in let start = after_without.before.before.before in
-    λ z h. third_total [] start.args.reach.now start.args.back.now start.pre.2 start.args.x start.args.y z start.pre.0
-    start.pre.1 h _ _ after_without.without.ensures c.without2.ensures))
+    λ z h. third_total [] c.args.reach.now c.args.back.now c.requires.2 c.args.x c.args.y z c.requires.0
+    c.requires.1 h _ _ c.without.ensures c.without-2.ensures))

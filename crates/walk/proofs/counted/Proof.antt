@@ -12,6 +12,6 @@ counted_spec =
     -- add-result
     (λ c. search rules)
     -- returns
-    (λ c. sym (counted_more _ c.if1.true))
+    (λ c. sym (counted_more _ c.if-count-le16000.true))
     -- returns-2
-    (λ c. sym (counted_full _ c.if1.false)))
+    (λ c. sym (counted_full _ c.if-count-le16000.false)))

@@ -18,7 +18,7 @@ put_line_spec =
     -- add-if1
     (λ c. search rules)
     -- returns
-    (λ c. sym (put_line_full _ _ _ _ _ _ c.if1.true))
+    (λ c. sym (put_line_full _ _ _ _ _ _ c.if-lines-at.true))
     -- cast-lines
     (λ c. search rules)
     -- slice-write-lines
@@ -44,4 +44,4 @@ put_line_spec =
     -- same-length
     (λ c. simp length-set)
     -- returns-2
-    (λ c. sym (put_line_put _ _ _ _ _ _ c.if1.false)))
+    (λ c. sym (put_line_put _ _ _ _ _ _ c.if-lines-at.false)))

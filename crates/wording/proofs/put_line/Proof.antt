@@ -24,12 +24,12 @@ put_line_spec =
     (λ c. search rules)
     -- returns
     (λ c.
-    let after_put_byte = c.before.before in let after_put_next3 = after_put_byte.before.before.before.before in
-    let after_put_next2 = after_put_next3.before.before.before.before in
-    let after_put_next = after_put_next2.before.before.before.before in (
+    let after_put_byte = c in let after_put_next3 = after_put_byte in
+    let after_put_next2 = after_put_next3 in
+    let after_put_next = after_put_next2 in (
       writes_as (line_words _ _ _ _)
-          (writes_then after_put_next.before.before.before.before.put-number.ensures.0
-          (writes_then after_put_next.put_next.ensures.0
-          (writes_then after_put_next2.put-next2.ensures.0 (writes_then after_put_next3.put-next3.ensures.0 after_put_byte.put_byte.ensures)))),
+          (writes_then after_put_next.put_number-first.ensures.0
+          (writes_then after_put_next.put_next-second.ensures.0
+          (writes_then after_put_next2.put_next-third.ensures.0 (writes_then after_put_next3.put_next-fourth.ensures.0 after_put_byte.put_byte.ensures)))),
       omega (arith, after_put_byte.put_byte.ensures.ends),
     )))

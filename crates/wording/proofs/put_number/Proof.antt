@@ -20,7 +20,7 @@ put_number_spec =
     (λ c. search rules)
     -- returns
     (λ c.
-    let after_put_decimal = c.before.before in let after_wide = after_put_decimal.before in (
-      writes_as (ap decimal after_wide.wide.ensures.0) after_put_decimal.put-decimal.ensures,
-      omega (arith, after_put_decimal.put-decimal.ensures.ends, decimal_byte after_wide.wide.result after_wide.wide.ensures.1),
+    let after_put_decimal = c in let after_wide = after_put_decimal in (
+      writes_as (ap decimal after_wide.wide.ensures.0) after_put_decimal.put_decimal.ensures,
+      omega (arith, after_put_decimal.put_decimal.ensures.ends, decimal_byte after_wide.wide.result after_wide.wide.ensures.1),
     )))

@@ -18,7 +18,7 @@ put_refusal_spec =
     (λ c. search rules)
     -- returns
     (λ c.
-    let after_put_byte = c.before.before in let after_put_refused = after_put_byte.before.before.before.before in (
-      writes_as (refusal_words _ _) (writes_then after_put_refused.Put-refused.ensures.0 after_put_byte.put_byte.ensures),
-      omega (arith, after_put_refused.Put-refused.ensures.1, after_put_byte.put_byte.ensures.ends),
+    let after_put_byte = c in let after_put_refused = after_put_byte in (
+      writes_as (refusal_words _ _) (writes_then after_put_refused.put_refused-end.ensures.0 after_put_byte.put_byte.ensures),
+      omega (arith, after_put_refused.put_refused-end.ensures.1, after_put_byte.put_byte.ensures.ends),
     )))

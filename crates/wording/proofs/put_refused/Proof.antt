@@ -7,52 +7,34 @@ use Rattle.wording.proofs.Texts.{refused_words}
 use Rattle.wording.proofs.put_refused.Statement.{statement}
 use Rattle.wording.proofs.put_refused.Tie as tie
 
--- The places that lie behind a place.
-
-abbrev put_bytes2_of_put_decimal_arg2 : tie.After-put-decimal-arg2 → tie.After-put-bytes2
-put_bytes2_of_put_decimal_arg2 c = c.before.before.before
-
-abbrev put_bytes_of_put_decimal : tie.After-put-decimal → tie.After-put-bytes
-put_bytes_of_put_decimal c = c.before.before.before.before
-
-abbrev put_decimal_of_put_bytes_arg4 : tie.After-put-bytes-arg4 → tie.After-put-decimal
-put_decimal_of_put_bytes_arg4 c = c.before.before.before.before
-
-abbrev start_of_put_bytes_arg4 : tie.After-put-bytes-arg4 → tie.Start
-start_of_put_bytes_arg4 c = (put_bytes_of_put_decimal (put_decimal_of_put_bytes_arg4 c)).before.before.before.before
-
 pub put_refused_spec : {M : Type 1} → statement M
 put_refused_spec =
     tie.close
     (tie.spec
-    -- slice-aggregate-put-bytes
-    (λ c. search rules)
     -- put-bytes-requires
     (λ c κs. search rules)
     -- put-decimal-requires
     (λ c κs. search rules)
-    -- slice-aggregate-put-bytes-2
-    (λ c. search rules)
     -- put-bytes-requires-2
-    (λ c κs. let k = decimal_machine (start_of_put_bytes_arg4 c).args.k (omega arith) in omega arith)
+    (λ c κs. let k = decimal_machine c.args.k (omega arith) in omega arith)
     -- put-decimal-requires-2
-    (λ c κs. let k = decimal_machine (start_of_put_bytes_arg4 (put_bytes2_of_put_decimal_arg2 c).before).args.k (omega arith) in omega arith)
+    (λ c κs. let k = decimal_machine (c).args.k (omega arith) in omega arith)
     -- same-length
     (λ c. search rules)
     -- returns
     (λ c.
-    let after_put_decimal2 = c.before.before in let after_put_bytes2 = put_bytes2_of_put_decimal_arg2 after_put_decimal2.before in
-    let after_put_decimal = put_decimal_of_put_bytes_arg4 after_put_bytes2.before in
-    let after_put_bytes = put_bytes_of_put_decimal after_put_decimal in let start = start_of_put_bytes_arg4 after_put_bytes2.before in
+    let after_put_decimal2 = c in let after_put_bytes2 = after_put_decimal2 in
+    let after_put_decimal = after_put_bytes2 in
+    let after_put_bytes = after_put_decimal in let start = after_put_bytes2 in
     let k = decimal_machine start.args.k (omega arith) in
     let p = decimal_machine start.args.place (omega arith) in (
-      writes_as (refused_words _ _) (writes_then after_put_bytes.put-bytes.ensures
-          (writes_then after_put_decimal.put-decimal.ensures (writes_then after_put_bytes2.put-bytes2.ensures after_put_decimal2.put-decimal2.ensures))),
+      writes_as (refused_words _ _) (writes_then after_put_bytes.put_bytes-number.ensures
+          (writes_then after_put_decimal.put_decimal-behind.ensures (writes_then after_put_bytes2.put_bytes-where_from.ensures after_put_decimal2.put_decimal.ensures))),
       omega (
         arith,
-        after_put_bytes.put-bytes.ensures.ends,
-        after_put_decimal.put-decimal.ensures.ends,
-        after_put_bytes2.put-bytes2.ensures.ends,
-        after_put_decimal2.put-decimal2.ensures.ends,
+        after_put_bytes.put_bytes-number.ensures.ends,
+        after_put_decimal.put_decimal-behind.ensures.ends,
+        after_put_bytes2.put_bytes-where_from.ensures.ends,
+        after_put_decimal2.put_decimal.ensures.ends,
       ),
     )))

@@ -9,49 +9,20 @@ use Rattle.wording.proofs.Texts.{left, left-length, report_first, report_next, r
 use Rattle.wording.proofs.put_report.Statement.{statement}
 use Rattle.wording.proofs.put_report.Tie as tie
 
-abbrev invariant-loop : tie.invariant-loop
-invariant-loop buffer₀ at report links size to₀ i₀ buffer to i = (1 ≤ i) × (i ≤ size) × Part buffer₀ to₀ (left size report 1) buffer to (left size report i)
+abbrev invariant-loop-i : tie.invariant-loop-i
+invariant-loop-i buffer₀ at report links size to₀ i₀ buffer to i = (1 ≤ i) × (i ≤ size) × Part buffer₀ to₀ (left size report 1) buffer to (left size report i)
 
-abbrev decreases-loop : tie.decreases-loop
-decreases-loop buffer₀ at report links size to₀ i₀ buffer to i = size - i
-
--- The places that lie behind a place.
-
-abbrev at_loop_of_put_byte_arg2 : tie.After-put-byte-arg2 invariant-loop decreases-loop → tie.At-loop invariant-loop decreases-loop
-at_loop_of_put_byte_arg2 c = c.before.before
-
-abbrev start_of_shared_slice_known : tie.After-shared-slice-known invariant-loop decreases-loop → tie.Start invariant-loop decreases-loop
-start_of_shared_slice_known c = c.before.before
-
-abbrev at_loop_of_put_byte_arg : tie.After-put-byte-arg invariant-loop decreases-loop → tie.At-loop invariant-loop decreases-loop
-at_loop_of_put_byte_arg c = c.before.before
-
-abbrev put_byte2_of_slice_known5 : tie.After-slice-known5 invariant-loop decreases-loop → tie.After-put-byte2 invariant-loop decreases-loop
-put_byte2_of_slice_known5 c = c.before.before
-
-abbrev put_hex_byte2_of_slice_known4 : tie.After-slice-known4 invariant-loop decreases-loop → tie.After-put-hex-byte2 invariant-loop decreases-loop
-put_hex_byte2_of_slice_known4 c = c.before.before
-
-abbrev put_hex_byte_of_at_loop : tie.At-loop invariant-loop decreases-loop → tie.After-put-hex-byte invariant-loop decreases-loop
-put_hex_byte_of_at_loop c = c.before.before.before
-
-abbrev start_of_report_size : tie.After-report-size invariant-loop decreases-loop → tie.Start invariant-loop decreases-loop
-start_of_report_size c = start_of_shared_slice_known c.before
-
-abbrev put_byte_of_shared_slice_known3 : tie.After-shared-slice-known3 invariant-loop decreases-loop → tie.After-put-byte invariant-loop decreases-loop
-put_byte_of_shared_slice_known3 c = c.before.before.before.before
-
-abbrev report_size_of_at_loop : tie.At-loop invariant-loop decreases-loop → tie.After-report-size invariant-loop decreases-loop
-report_size_of_at_loop c = (put_hex_byte_of_at_loop c).before.before.before
+abbrev decreases-loop-i : tie.decreases-loop-i
+decreases-loop-i buffer₀ at report links size to₀ i₀ buffer to i = size - i
 
 pub put_report_spec : {M : Type 1} → statement M
 put_report_spec =
     tie.close
     (tie.spec
-    invariant-loop
-    decreases-loop
+    invariant-loop-i
+    decreases-loop-i
     -- report-size-requires
-    (λ c κs. let p = (start_of_shared_slice_known c).requires in (p.1, p.2, p.3))
+    (λ c κs. let p = c.requires in (p.1, p.2, p.3))
     -- shared-slice-read-put-hex-byte
     (λ c. omega arith)
     -- put-hex-byte-requires
@@ -60,24 +31,24 @@ put_report_spec =
     (λ c. (omega arith, omega arith, part_from _ _ refl))
     -- put-byte-requires
     (λ c κs.
-    let at_loop = at_loop_of_put_byte_arg c in let after_report_size = report_size_of_at_loop at_loop in
-    let start = start_of_report_size after_report_size in
-    let sized = left-length after_report_size.report-size.result start.args.report.now after_report_size.report-size.ensures.1 in
-    omega (arith, part_place at_loop.loop.inv.2, sized 1, sized at_loop.loop.i, (put_hex_byte_of_at_loop at_loop).put-hex-byte.ensures.ends, hex_two (get_or start.args.report.now 0 0)))
+    let at_loop = c in let after_report_size = at_loop in
+    let start = after_report_size in
+    let sized = left-length after_report_size.report_size-size.result start.args.report.now after_report_size.report_size-size.ensures.1 in
+    omega (arith, part_place at_loop.loop-i.invariant.2, sized 1, sized at_loop.loop-i.i, at_loop.put_hex_byte-to.ensures.ends, hex_two (get_or start.args.report.now 0 0)))
     -- shared-slice-read-put-hex-byte-2
     (λ c. omega arith)
     -- put-hex-byte-requires-2
     (λ c κs.
-    let after_put_byte = put_byte_of_shared_slice_known3 c in let at_loop = at_loop_of_put_byte_arg after_put_byte.before in
-    let after_report_size = report_size_of_at_loop at_loop in let start = start_of_report_size after_report_size in
-    let sized = left-length after_report_size.report-size.result start.args.report.now after_report_size.report-size.ensures.1 in
+    let after_put_byte = c in let at_loop = after_put_byte in
+    let after_report_size = at_loop in let start = after_report_size in
+    let sized = left-length after_report_size.report_size-size.result start.args.report.now after_report_size.report_size-size.ensures.1 in
     omega (
       arith,
-      part_place at_loop.loop.inv.2,
+      part_place at_loop.loop-i.invariant.2,
       sized 1,
-      sized at_loop.loop.i,
-      (put_hex_byte_of_at_loop at_loop).put-hex-byte.ensures.ends,
-      after_put_byte.put_byte.ensures.ends,
+      sized at_loop.loop-i.i,
+      at_loop.put_hex_byte-to.ensures.ends,
+      after_put_byte.put_byte-to.ensures.ends,
       hex_two (get_or start.args.report.now 0 0),
     ))
     -- add-i
@@ -86,37 +57,37 @@ put_report_spec =
     (λ c. omega arith)
     -- loop-again
     (λ c.
-    let after_put_hex_byte2 = put_hex_byte2_of_slice_known4 c in
-    let after_put_byte = put_byte_of_shared_slice_known3 after_put_hex_byte2.before in
-    let at_loop = at_loop_of_put_byte_arg after_put_byte.before in let after_report_size = report_size_of_at_loop at_loop in (
+    let after_put_hex_byte2 = c in
+    let after_put_byte = after_put_hex_byte2 in
+    let at_loop = after_put_byte in let after_report_size = at_loop in (
       omega arith,
       omega arith,
-      part_more at_loop.loop.inv.2
-          (report_next after_report_size.report-size.result (start_of_report_size after_report_size).args.report.now
-          after_report_size.report-size.ensures.1 at_loop.loop.i (omega arith))
-          (writes_then after_put_byte.put_byte.ensures after_put_hex_byte2.put-hex-byte2.ensures),
+      part_more at_loop.loop-i.invariant.2
+          (report_next after_report_size.report_size-size.result after_report_size.args.report.now
+          after_report_size.report_size-size.ensures.1 at_loop.loop-i.i (omega arith))
+          (writes_then after_put_byte.put_byte-to.ensures after_put_hex_byte2.put_hex_byte-to-in-loop-i.ensures),
     ))
     -- put-byte-requires-2
     (λ c κs.
-    let at_loop = at_loop_of_put_byte_arg2 c in let after_report_size = report_size_of_at_loop at_loop in
-    let start = start_of_report_size after_report_size in
-    let sized = left-length after_report_size.report-size.result start.args.report.now after_report_size.report-size.ensures.1 in
-    omega (arith, part_place at_loop.loop.inv.2, sized 1, sized at_loop.loop.i, (put_hex_byte_of_at_loop at_loop).put-hex-byte.ensures.ends, hex_two (get_or start.args.report.now 0 0)))
+    let at_loop = c in let after_report_size = at_loop in
+    let start = after_report_size in
+    let sized = left-length after_report_size.report_size-size.result start.args.report.now after_report_size.report_size-size.ensures.1 in
+    omega (arith, part_place at_loop.loop-i.invariant.2, sized 1, sized at_loop.loop-i.i, at_loop.put_hex_byte-to.ensures.ends, hex_two (get_or start.args.report.now 0 0)))
     -- same-length
     (λ c.
-    let after_put_byte2 = put_byte2_of_slice_known5 c in let at_loop = at_loop_of_put_byte_arg2 after_put_byte2.before in
-    writes_length after_put_byte2.put-byte2.ensures ∙ part_length at_loop.loop.inv.2 ∙ writes_length (put_hex_byte_of_at_loop at_loop).put-hex-byte.ensures)
+    let after_put_byte2 = c in let at_loop = after_put_byte2 in
+    writes_length after_put_byte2.put_byte.ensures ∙ part_length at_loop.loop-i.invariant.2 ∙ writes_length at_loop.put_hex_byte-to.ensures)
     -- returns
     (λ c.
-    let after_put_byte2 = put_byte2_of_slice_known5 c in let at_loop = at_loop_of_put_byte_arg2 after_put_byte2.before in
-    let after_put_hex_byte = put_hex_byte_of_at_loop at_loop in let after_report_size = report_size_of_at_loop at_loop in
-    let args_report_now = (start_of_report_size after_report_size).args.report.now in
-    let report_size_result = after_report_size.report-size.result in
-    let size = after_report_size.report-size.ensures in
+    let after_put_byte2 = c in let at_loop = after_put_byte2 in
+    let after_put_hex_byte = at_loop in let after_report_size = at_loop in
+    let args_report_now = after_report_size.args.report.now in
+    let report_size_result = after_report_size.report_size-size.result in
+    let size = after_report_size.report_size-size.ensures in
     let sized = left-length report_size_result args_report_now size.1 in
     let first = report_first report_size_result args_report_now size.1 size.0 (omega arith) in
-    let last = report_end report_size_result args_report_now size.1 at_loop.loop.i (omega arith) in
-    let rest = part_last at_loop.loop.inv.2 (writes_as (sym last) after_put_byte2.put-byte2.ensures) in (
-      writes_as (sym first) (writes_then after_put_hex_byte.put-hex-byte.ensures rest),
-      omega (arith, rest.ends, sized 1, after_put_hex_byte.put-hex-byte.ensures.ends, hex_two (get_or args_report_now 0 0)),
+    let last = report_end report_size_result args_report_now size.1 at_loop.loop-i.i (omega arith) in
+    let rest = part_last at_loop.loop-i.invariant.2 (writes_as (sym last) after_put_byte2.put_byte.ensures) in (
+      writes_as (sym first) (writes_then after_put_hex_byte.put_hex_byte-to.ensures rest),
+      omega (arith, rest.ends, sized 1, after_put_hex_byte.put_hex_byte-to.ensures.ends, hex_two (get_or args_report_now 0 0)),
     )))

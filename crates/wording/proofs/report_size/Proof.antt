@@ -6,51 +6,40 @@ use Rattle.wording.proofs.Texts.{report_sized}
 use Rattle.wording.proofs.report_size.Statement.{statement}
 use Rattle.wording.proofs.report_size.Tie as tie
 
--- The places that lie behind a place.
-
-abbrev start_of_shared_slice_known2 : tie.After-shared-slice-known2 → tie.Start
-start_of_shared_slice_known2 c = c.before.before
-
-abbrev wide_of_wide2 : tie.After-wide2 → tie.After-wide
-wide_of_wide2 c = c.before.before
-
-abbrev start_of_wide : tie.After-wide → tie.Start
-start_of_wide c = start_of_shared_slice_known2 c.before
-
 pub report_size_spec : {M : Type 1} → statement M
 report_size_spec =
     tie.close
     (tie.spec
     -- shared-slice-read-wide
     (λ c.
-    let start = start_of_shared_slice_known2 c in
-    let s = report_sized start.args.report.now start.args.links _ _ start.pre.2 refl refl in omega (arith, s.whole))
+    let start = c in
+    let s = report_sized start.args.report.now start.args.links _ _ start.requires.2 refl refl in omega (arith, s.whole))
     -- wide-requires
     (λ c κs. search rules)
     -- add-wide
     (λ c. search rules)
     -- shared-slice-read-wide-2
     (λ c.
-    let start = start_of_wide c.before in
-    let s = report_sized start.args.report.now start.args.links _ _ start.pre.2 c.before.wide.ensures.0 refl in omega (arith, s.whole))
+    let start = c in
+    let s = report_sized start.args.report.now start.args.links _ _ start.requires.2 c.wide-p.ensures.0 refl in omega (arith, s.whole))
     -- wide-requires-2
     (λ c κs. search rules)
     -- add-result
     (λ c. search rules)
     -- div-result
-    (λ c. omega (arith, (start_of_wide (wide_of_wide2 c)).requires.0))
+    (λ c. omega (arith, (c).requires.0))
     -- add-result-2
     (λ c.
-    let after_wide = wide_of_wide2 c in let start = start_of_wide after_wide in
-    let s = report_sized start.args.report.now start.args.links _ _ start.pre.2 after_wide.wide.ensures.0 c.wide2.ensures.0 in
-    omega (arith, s.nodes, after_wide.wide.ensures.1, c.wide2.ensures.1))
+    let after_wide = c in let start = after_wide in
+    let s = report_sized start.args.report.now start.args.links _ _ start.requires.2 after_wide.wide-p.ensures.0 c.wide-n.ensures.0 in
+    omega (arith, s.nodes, after_wide.wide-p.ensures.1, c.wide-n.ensures.1))
     -- add-result-3
     (λ c.
-    let after_wide = wide_of_wide2 c in let start = start_of_wide after_wide in
-    let s = report_sized start.args.report.now start.args.links _ _ start.pre.2 after_wide.wide.ensures.0 c.wide2.ensures.0 in
-    omega (arith, s.nodes, after_wide.wide.ensures.1, c.wide2.ensures.1))
+    let after_wide = c in let start = after_wide in
+    let s = report_sized start.args.report.now start.args.links _ _ start.requires.2 after_wide.wide-p.ensures.0 c.wide-n.ensures.0 in
+    omega (arith, s.nodes, after_wide.wide-p.ensures.1, c.wide-n.ensures.1))
     -- returns
     (λ c.
-    let after_wide = wide_of_wide2 c in let start = start_of_wide after_wide in
-    let s = report_sized start.args.report.now start.args.links _ _ start.pre.2 after_wide.wide.ensures.0 c.wide2.ensures.0 in
+    let after_wide = c in let start = after_wide in
+    let s = report_sized start.args.report.now start.args.links _ _ start.requires.2 after_wide.wide-p.ensures.0 c.wide-n.ensures.0 in
     (s.counted, s.whole, omega arith, omega (arith, s.successors, s.terms, s.nodes))))

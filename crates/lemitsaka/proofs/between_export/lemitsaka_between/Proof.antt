@@ -18,5 +18,5 @@ lemitsaka_between_spec =
     (λ c. search rules)
     -- returns
     (λ c.
-    let did = c.before.before.before.between.ensures in
-    record { answers = c.between-number.ensures ∙ ap (λ a. code (verdict_digits a)) did.answers; leaves = did.leaves }))
+    let did = c.between.ensures in
+    record { answers = c.between_number.ensures ∙ ap (λ a. code (verdict_digits a)) did.answers; leaves = did.leaves }))

@@ -15,4 +15,4 @@ lemitsaka_links_check_spec =
     -- check-number-requires
     (λ c κs. search rules)
     -- returns
-    (λ c. c.check-number.ensures ∙ ap (λ a. code (check_digits a)) c.before.links-check.ensures))
+    (λ c. c.check_number.ensures ∙ ap (λ a. code (check_digits a)) c.links_check.ensures))

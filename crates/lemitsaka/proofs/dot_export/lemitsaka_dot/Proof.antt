@@ -21,11 +21,11 @@ lemitsaka_dot_spec =
     (λ c. search rules)
     -- returns
     (λ c.
-    let did = c.before.before.before.dot.ensures in
-    let start = c.before.before.before.before.before.before.before.args in
-    let known = c.before.before.before.before.before.before.shared-slice-known.given in
+    let did = c.dot.ensures in
+    let start = c.args in
+    let known = c.shared_slice_known-1.given in
     record {
-      answers = c.dot-number.ensures ∙ ap (λ a. code (dot_digits a)) did.answers;
+      answers = c.dot_number.ensures ∙ ap (λ a. code (dot_digits a)) did.answers;
       leaves = did.leaves;
       short = dot_short start.report.now (length start.text.now) (λ i. omega (arith, known i));
     }))

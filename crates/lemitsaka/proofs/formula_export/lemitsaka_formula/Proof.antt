@@ -15,8 +15,8 @@ lemitsaka_formula_spec =
     -- formula-number-requires
     (λ c κs. search rules)
     -- same-length
-    (λ c. c.before.before.before.formula.auto.1.1.1.0)
+    (λ c. c.formula.auto.report)
     -- returns
     (λ c.
-    let did = c.before.before.before.formula.ensures in
-    record { answers = c.formula-number.ensures ∙ ap (λ a. code (formula_digits a)) did.answers; leaves = did.leaves }))
+    let did = c.formula.ensures in
+    record { answers = c.formula_number.ensures ∙ ap (λ a. code (formula_digits a)) did.answers; leaves = did.leaves }))

@@ -15,4 +15,4 @@ lemitsaka_hand_back_spec =
     -- part-number-requires
     (λ c κs. search rules)
     -- returns
-    (λ c. c.part-number.ensures ∙ ap (λ a. code (hand_digits a)) c.before.find-named.ensures.0))
+    (λ c. c.part_number.ensures ∙ ap (λ a. code (hand_digits a)) c.find_named.ensures.0))

@@ -18,5 +18,5 @@ lemitsaka_join_spec =
     (λ c. search rules)
     -- returns
     (λ c.
-    let did = c.before.before.before.join.ensures in
-    record { answers = c.join-number.ensures ∙ ap (λ a. code (join_digits a)) did.answers; leaves = did.leaves }))
+    let did = c.join.ensures in
+    record { answers = c.join_number.ensures ∙ ap (λ a. code (join_digits a)) did.answers; leaves = did.leaves }))

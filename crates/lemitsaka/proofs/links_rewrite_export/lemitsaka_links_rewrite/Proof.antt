@@ -18,5 +18,5 @@ lemitsaka_links_rewrite_spec =
     (λ c. search rules)
     -- returns
     (λ c.
-    let did = c.before.before.before.rewrite.ensures in
-    record { answers = c.rewrite-number.ensures ∙ ap (λ a. code (writing_digits a)) did.answers; leaves = did.leaves }))
+    let did = c.rewrite.ensures in
+    record { answers = c.rewrite_number.ensures ∙ ap (λ a. code (writing_digits a)) did.answers; leaves = did.leaves }))

@@ -18,5 +18,5 @@ lemitsaka_order_spec =
     (λ c. search rules)
     -- returns
     (λ c.
-    let did = c.before.before.before.order-of.ensures in
-    record { answers = c.order-number.ensures ∙ ap (λ a. code (order_digits a)) did.answers; leaves = did.leaves }))
+    let did = c.order_of.ensures in
+    record { answers = c.order_number.ensures ∙ ap (λ a. code (order_digits a)) did.answers; leaves = did.leaves }))

@@ -18,5 +18,5 @@ lemitsaka_links_verdict_spec =
     (λ c. search rules)
     -- returns
     (λ c.
-    let did = c.before.before.before.links-verdict.ensures in
-    record { answers = c.verdict-number.ensures ∙ ap (λ a. code (verdict_digits a)) did.answers; leaves = did.leaves }))
+    let did = c.links_verdict.ensures in
+    record { answers = c.verdict_number.ensures ∙ ap (λ a. code (verdict_digits a)) did.answers; leaves = did.leaves }))

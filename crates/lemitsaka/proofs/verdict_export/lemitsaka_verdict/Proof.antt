@@ -18,5 +18,5 @@ lemitsaka_verdict_spec =
     (λ c. search rules)
     -- returns
     (λ c.
-    let did = c.before.before.before.verdict.ensures in
-    record { answers = c.verdict-number.ensures ∙ ap (λ a. code (verdict_digits a)) did.answers; leaves = did.leaves }))
+    let did = c.verdict.ensures in
+    record { answers = c.verdict_number.ensures ∙ ap (λ a. code (verdict_digits a)) did.answers; leaves = did.leaves }))
