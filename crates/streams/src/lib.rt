@@ -1,5 +1,6 @@
 // The standard streams as the programs use them: a lent buffer is filled from standard input, bytes and numbers are written to standard
-// output, and a line to standard error. A read that fails ends the input. A write that fails ends what is written, and its answer is false.
+// output, and a line to standard error. A read that fails ends the input. A write that fails ends what is
+// written by that call, and says so to nobody, since no contract can say what a stream took.
 #![tactic(auto)]
 
 ghost use Rattle.std.specs.Prelude.{◌≡◌, ◌≤◌, length, take};
@@ -36,24 +37,24 @@ pub fn read_full(rt: &impl Input, buffer: &mut [u8]) -> usize
     fill(&mut reader, buffer)
 }
 
-// Writes all bytes to standard output, or answers false.
-pub fn write_all(rt: &impl Print, bytes: &[u8]) -> bool {
-    rt.write_all(bytes).is_ok()
+// Writes all bytes to standard output.
+pub fn write_all(rt: &impl Print, bytes: &[u8]) {
+    let _is_written = rt.write_all(bytes).is_ok();
 }
 
 // A number in decimal digits, on standard output.
-pub fn print_decimal(rt: &impl Print, number: u64) -> bool {
-    rt.print(number).is_ok()
+pub fn print_decimal(rt: &impl Print, number: u64) {
+    let _is_written = rt.print(number).is_ok();
 }
 
 // A byte in two hex digits, on standard output.
-pub fn print_hex(rt: &impl Print, byte: u8) -> bool {
-    print!(rt; "{byte:02x}").is_ok()
+pub fn print_hex(rt: &impl Print, byte: u8) {
+    let _is_written = print!(rt; "{byte:02x}").is_ok();
 }
 
 // A text, on standard error.
-pub fn print_error(rt: &impl Eprint, text: &str) -> bool {
-    rt.eprint(text).is_ok()
+pub fn print_error(rt: &impl Eprint, text: &str) {
+    let _is_written = rt.eprint(text).is_ok();
 }
 
 // A buffer shorter than what is read, and one that is longer than the rest.
