@@ -1,23 +1,19 @@
 -- What the code's steps come to, by the cases of its enums.
 use Prim.Native.Nat.{ℕ, ◌≤◌}
 use native.Mathlib.Omega.{arith}
-use mathlib.Core.Path.{◌≡◌, refl, sym, ap, ◌∙◌}
+use mathlib.Core.Path.{◌≡◌, refl, ap, ◌∙◌}
 use mathlib.Core.List.{List}
-use mathlib.Core.Bool.{Bool, cond}
+use mathlib.Core.Bool.{Bool}
 use mathlib.Core.Option.{get_or}
-use lib.Dec.{eqb}
-use borrow.Author.Tests.{eq-eqb, ne_eqb}
 use Rattle.logic.specs.Heap.{iterate}
 use Rattle.logic.specs.Search.{find}
 use Rattle.logic.specs.Facts.{Graph, terms}
-use Rattle.logic.specs.Rules.{Rule, REFLEX, TRANS1, TRANS2, FUNC, CYCLE, SCC, TOTAL, SHARE, Fact, equal, next}
+use Rattle.logic.specs.Rules.{Rule, REFLEX, TRANS1, TRANS2, FUNC, CYCLE, SCC, TOTAL, SHARE, equal, next}
 use Rattle.rows.specs.Square.{square}
 use Rattle.link_rows.specs.Cube.{cube}
 use Rattle.facts.specs.declared.Facts as code
-use Rattle.facts.specs.Path.{links_in, links_by, graph_in, graphs, path_of, HasLink}
-use Rattle.facts.proofs.Path.{graph_at, link_at}
-use Rattle.rules.specs.declared.Rule as rules
-use Rattle.rules.specs.Answers.{kind_of}
+use Rattle.facts.specs.Path.{links_in, links_by, path_of, HasLink}
+use Rattle.facts.proofs.Path.{link_at}
 use Rattle.link_steps.specs.Cycle.{steps_to}
 use Rattle.link_steps.proofs.Around.{steps_never, iterate-le}
 use Rattle.alternatives.specs.Alternatives.{alternative_at}
@@ -25,16 +21,6 @@ use Rattle.alternatives.specs.Alternatives.{alternative_at}
 -- the term that all i links lead to: 17 is met on no way
 pub followed : (n : ℕ) (g : Graph) (c i s t : ℕ) → n ≤ 16 → c ≤ 16 → s ≡ steps_to n g 17 i c → t ≡ iterate (next n g) s c → (t ≡ iterate (next n g) i c) × (t ≤ 16)
 followed n g c i s t h l e f = (f ∙ ap (λ (k : ℕ). iterate (next n g) k c) (e ∙ steps_never n g 17 (omega arith) i c (omega arith)), rw f (iterate-le n g s c 16 h l))
-
--- what a rule comes to, where the rule is known, and the third number as a term
-pub known_rule : (r r' : rules.Rule) (l n : ℕ) (g : Graph) (x y z t i : ℕ) (f : Fact) → r ≡ r' → t ≡ z → f ≡ alternative_at l n g (kind_of r') x y t i → f ≡ alternative_at l n g (kind_of r) x y z i
-known_rule r r' l n g x y z t i f e q h = h ∙ ap (λ (k : rules.Rule). alternative_at l n g (kind_of k) x y t i) (sym e) ∙ ap (λ (u : ℕ). alternative_at l n g (kind_of r) x y u i) q
-
-pub first_of_two : (i : ℕ) (f e : Fact) → i ≡ 0 → f ≡ cond (eqb i 0) f e
-first_of_two i f e h = rw (eq-eqb i 0 h)
-
-pub second_of_two : (i : ℕ) (f e : Fact) → (i ≡ 0 → ⊥) → e ≡ cond (eqb i 0) f e
-second_of_two i f e h = rw (ne_eqb i 0 h)
 
 -- alternatives read the links alone
 pub alternative_links : (k n : ℕ) (f g : Graph) → f.link ≡ g.link → (r : Rule) (x y z i : ℕ) → alternative_at k n f r x y z i ≡ alternative_at k n g r x y z i
@@ -52,11 +38,6 @@ alternative_links k n f g e SHARE x y z i = refl
 pub alternative_own : (k n : ℕ) (link own : List ℕ) → square own ≡ cube link k → (r : Rule) (x y z i : ℕ) → alternative_at k n (links_in own) r x y z i ≡ alternative_at k n (links_by link k) r x y z i
 unfolding links_in links_by
 alternative_own k n link own e = alternative_links k n (links_in own) (links_by link k) e
-
-pub alternative_path : (k n : ℕ) (single : Bool) (link reach : List ℕ) → k ≤ cond single 1 3 → (r : Rule) (x y z i : ℕ) →
-    alternative_at k n (links_by link k) r x y z i ≡ alternative_at k n (graphs single link reach k) r x y z i
-unfolding links_by graph_in
-alternative_path k n single link reach h = alternative_links k n (links_by link k) (graphs single link reach k) (ap (λ (g : Graph). g.link) (sym (graph_at single link reach k h)))
 
 pub alternative_record : (k n : ℕ) (s : code.Facts) → HasLink (path_of s) k → (r : Rule) (x y z i : ℕ) →
     alternative_at k n (links_by s.link k) r x y z i ≡ alternative_at k n ((path_of s).graph k) r x y z i

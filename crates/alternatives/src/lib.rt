@@ -3,80 +3,54 @@
 
 ghost use Rattle.std.specs.Prelude.{◌≡◌, ◌≤◌, ◌<◌};
 ghost use Rattle.facts.specs.Path.{links_by};
-ghost use Rattle.rules.specs.Answers.{kind_of};
+ghost use Rattle.rules.specs.Answers.{kind_of, TripleInRange};
 ghost use Rattle.alternatives.specs.Answers.{fact_of, InRange};
 ghost use Rattle.alternatives.specs.Alternatives.{count_of, alternative_at};
 
-use link_rows::Link;
+use facts::Facts;
 use rows::Term;
-use rules::{Rule, Third};
+use rules::{Move, Rule};
 
 // What a rule concludes, of its link.
-#[derive(Drop)]
+#[derive(Clone, Copy)]
 pub enum Fact {
     Equal(Term, Term),
     Reaches(Term, Term),
 }
 
-// How many alternatives a rule has, z being the third number of its triple.
-pub fn count(rule: Rule, z: Third) -> usize
-    ensures { result ≡ count_of (kind_of rule) z.0 }
+// How many alternatives the rule of a move has.
+pub fn count(m: Move) -> usize
+    ensures { result ≡ count_of (kind_of m.rule) m.z.0 }
 {
-    match rule {
-        Rule::Reflex => 1,
-        Rule::Trans1 => 1,
-        Rule::Trans2 => 1,
-        Rule::Func => 2,
-        Rule::Cycle => z.0,
-        Rule::Scc => 2,
-        Rule::Total => 2,
-        Rule::Share => 1,
+    match m.rule {
+        Rule::Reflex | Rule::Trans1 | Rule::Trans2 | Rule::Share => 1,
+        Rule::Func | Rule::Scc | Rule::Total => 2,
+        Rule::Cycle => m.z.0,
     }
 }
 
-// The alternative of a rule at i, from 0, by link k. That of CYCLE is the term i links on from x: 17 is no term, so that all i are followed.
-pub fn alternative(
-    link: &[u32; 51],
-    n: usize,
-    k: Link,
-    rule: Rule,
-    x: Term,
-    y: Term,
-    z: Third,
-    i: usize,
-) -> Fact
-    requires { (n ≤ 16) × (0 < k.0) × (k.0 ≤ 3) × (x.0 ≤ 16) × (y.0 ≤ 16) × (z.0 ≤ 16) }
-    ensures { (fact_of k.0 result ≡ alternative_at k.0 n (links_by link.now k.0) (kind_of rule) x.0 y.0 z.0 i) × InRange result }
+// The alternative of a move at i, from 0. That of CYCLE is the term i links on from x: 17 is no term, so that all i are followed.
+pub fn alternative(s: &Facts, n: usize, m: Move, i: usize) -> Fact
+    requires { (n ≤ 16) × (0 < m.link.0) × (m.link.0 ≤ 3) × TripleInRange m }
+    ensures { (fact_of m.link.0 result ≡ alternative_at m.link.0 n (links_by s.now.link m.link.0) (kind_of m.rule) m.x.0 m.y.0 m.z.0 i) × InRange result }
 {
-    let t = rules::third_term(z);
-    match rule {
+    let x = m.x;
+    let y = m.y;
+    let t = m.z.term();
+    match m.rule {
         Rule::Reflex => Fact::Reaches(x, x),
         Rule::Trans1 => Fact::Reaches(x, y),
         Rule::Trans2 => Fact::Reaches(x, t),
-        Rule::Func => {
-            if i == 0 {
-                return Fact::Equal(x, t);
-            }
-            Fact::Reaches(y, t)
-        }
+        Rule::Func if i == 0 => Fact::Equal(x, t),
+        Rule::Func => Fact::Reaches(y, t),
         Rule::Cycle => {
-            let own = link_rows::rows_of(link, k);
-            let round = link_steps::follow(&own, n, x, Term(17), i);
-            let u = round.term;
-            Fact::Equal(y, u)
+            let own = link_rows::rows_of(&s.link, m.link);
+            Fact::Equal(y, link_steps::follow(&own, n, x, Term(17), i).term)
         }
-        Rule::Scc => {
-            if i == 0 {
-                return Fact::Equal(x, y);
-            }
-            Fact::Reaches(t, x)
-        }
-        Rule::Total => {
-            if i == 0 {
-                return Fact::Reaches(y, t);
-            }
-            Fact::Reaches(t, y)
-        }
+        Rule::Scc if i == 0 => Fact::Equal(x, y),
+        Rule::Scc => Fact::Reaches(t, x),
+        Rule::Total if i == 0 => Fact::Reaches(y, t),
+        Rule::Total => Fact::Reaches(t, y),
         Rule::Share => Fact::Equal(x, y),
     }
 }

@@ -9,18 +9,31 @@ ghost use Rattle.formula_call.specs.FormulaPromise as formula;
 ghost use Rattle.joiner.specs.Promise as joiner;
 ghost use Rattle.precedence.specs.Answers as precedence;
 ghost use Rattle.prover.specs.Promise as prover;
+ghost use Rattle.refusals.specs.Numbers.{number_of};
 ghost use Rattle.rewriter.specs.Promise as rewriter;
-ghost use Rattle.codes.specs.Codes.{code};
+ghost use Rattle.codes.specs.Codes.{refusal, with_high, code};
 ghost use Rattle.answer_codes.specs.Numbers.{verdict_digits, order_digits, formula_digits, check_digits, dot_digits, writing_digits, join_digits, hand_digits};
 
 use between_call::BetweenAnswer;
-use checker::CheckAnswer;
-use dot::DotAnswer;
 use formula_call::FormulaAnswer;
-use joiner::{HandBack, JoinAnswer};
+use joiner::{HandBack, JoinRefusal};
 use precedence::OrderAnswer;
 use prover::Answer;
-use rewriter::Rewritten;
+use refusals::Refusal;
+
+// A refusal: its fault's number and its place.
+fn refused(e: Refusal) -> u64
+    ensures { result ≡ code (refusal (number_of e.fault) e.place) }
+{
+    codes::numbered(e.fault.number(), e.place)
+}
+
+// The same, below a number that says more of it.
+fn refused_below(high: u16, e: Refusal) -> u64
+    ensures { result ≡ code (with_high high (number_of e.fault) e.place) }
+{
+    codes::digits(high, e.fault.number(), e.place)
+}
 
 // 0 satisfiable, 1 refuted, else a refusal.
 pub fn verdict_number(answer: Answer) -> u64
@@ -34,24 +47,24 @@ pub fn verdict_number(answer: Answer) -> u64
 }
 
 // 0 a heap, 1 none, else a refusal.
-pub fn between_number(answer: BetweenAnswer) -> u64
+pub fn between_number(answer: Result<BetweenAnswer, Refusal>) -> u64
     ensures { result ≡ code (verdict_digits (between.meaning answer)) }
 {
     match answer {
-        BetweenAnswer::Heap => codes::own_answer(0),
-        BetweenAnswer::Nothing => codes::own_answer(1),
-        BetweenAnswer::Refused(k, place) => codes::numbered(k, place),
+        Ok(BetweenAnswer::Heap) => codes::own_answer(0),
+        Ok(BetweenAnswer::Nothing) => codes::own_answer(1),
+        Err(e) => refused(e),
     }
 }
 
 // 0 an order, 1 none and its ring, else a refusal.
-pub fn order_number(answer: OrderAnswer) -> u64
+pub fn order_number(answer: Result<OrderAnswer, Refusal>) -> u64
     ensures { result ≡ code (order_digits (precedence.meaning answer)) }
 {
     match answer {
-        OrderAnswer::Order => codes::own_answer(0),
-        OrderAnswer::Ring => codes::own_answer(1),
-        OrderAnswer::Refused(k, place) => codes::numbered(k, place),
+        Ok(OrderAnswer::Order) => codes::own_answer(0),
+        Ok(OrderAnswer::Ring) => codes::own_answer(1),
+        Err(e) => refused(e),
     }
 }
 
@@ -67,58 +80,58 @@ pub fn formula_number(answer: FormulaAnswer) -> u64
 }
 
 // 0 accepted, else the first wrong line's number; or a refusal.
-pub fn check_number(answer: CheckAnswer) -> u64
+pub fn check_number(answer: Result<Option<usize>, Refusal>) -> u64
     ensures { result ≡ code (check_digits (checker.meaning answer)) }
 {
     match answer {
-        CheckAnswer::Accepted => codes::own_answer(0),
-        CheckAnswer::Wrong(line) => codes::own_answer(line),
-        CheckAnswer::Refused(k, place) => codes::numbered(k, place),
+        Ok(None) => codes::own_answer(0),
+        Ok(Some(line)) => codes::own_answer(line),
+        Err(e) => refused(e),
     }
 }
 
 // The text's length, else a refusal.
-pub fn dot_number(answer: DotAnswer) -> u64
+pub fn dot_number(answer: Result<usize, Refusal>) -> u64
     ensures { result ≡ code (dot_digits (dot.meaning answer)) }
 {
     match answer {
-        DotAnswer::Written(length) => codes::own_answer(length),
-        DotAnswer::Refused(k, place) => codes::numbered(k, place),
+        Ok(length) => codes::own_answer(length),
+        Err(e) => refused(e),
     }
 }
 
 // The length of the query written, else a refusal.
-pub fn rewrite_number(answer: Rewritten) -> u64
+pub fn rewrite_number(answer: Result<usize, Refusal>) -> u64
     ensures { result ≡ code (writing_digits (rewriter.meaning answer)) }
 {
     match answer {
-        Rewritten::Written(length) => codes::own_answer(length),
-        Rewritten::Refused(k, place) => codes::numbered(k, place),
+        Ok(length) => codes::own_answer(length),
+        Err(e) => refused(e),
     }
 }
 
 // The length of the query written, else a refusal, with 4,294,967,296 more where it is about the second query.
-pub fn join_number(answer: JoinAnswer) -> u64
+pub fn join_number(answer: Result<usize, JoinRefusal>) -> u64
     ensures { result ≡ code (join_digits (joiner.meaning answer)) }
 {
     match answer {
-        JoinAnswer::Written(length) => codes::own_answer(length),
-        JoinAnswer::FirstRefused(k, place) => codes::numbered(k, place),
-        JoinAnswer::SecondRefused(k, place) => codes::digits(1, k, place),
-        JoinAnswer::Refused(k, place) => codes::numbered(k, place),
+        Ok(length) => codes::own_answer(length),
+        Err(JoinRefusal::First(e)) => refused(e),
+        Err(JoinRefusal::Second(e)) => refused_below(1, e),
+        Err(JoinRefusal::Neither(e)) => refused(e),
     }
 }
 
 // Where a literal stands: the offset times 65,536 and the length; else a refusal, with 256 times 4,294,967,296 more. In both, 4,294,967,296
 // more is about the second query.
-pub fn part_number(found: HandBack) -> u64
+pub fn part_number(found: Result<HandBack, JoinRefusal>) -> u64
     ensures { result ≡ code (hand_digits (joiner.handed found)) }
 {
     match found {
-        HandBack::InFirst(at, size) => codes::digits(0, at, size),
-        HandBack::InSecond(at, size) => codes::digits(1, at, size),
-        HandBack::FirstRefused(k, place) => codes::digits(256, k, place),
-        HandBack::SecondRefused(k, place) => codes::digits(257, k, place),
-        HandBack::Refused(k, place) => codes::digits(256, k, place),
+        Ok(HandBack::InFirst(at, size)) => codes::digits(0, at, size),
+        Ok(HandBack::InSecond(at, size)) => codes::digits(1, at, size),
+        Err(JoinRefusal::First(e)) => refused_below(256, e),
+        Err(JoinRefusal::Second(e)) => refused_below(257, e),
+        Err(JoinRefusal::Neither(e)) => refused_below(256, e),
     }
 }

@@ -1,4 +1,5 @@
 -- What each return of the search says.
+use Rattle.std.specs.Prelude.{Option, IfSome}
 use Prim.Native.Nat.{ℕ, ◌+◌, ◌-◌, ◌≤◌, ◌<◌}
 use native.Mathlib.Omega.{arith}
 use mathlib.Core.Path.{◌≡◌, sym, ap, ◌∙◌, subst}
@@ -9,7 +10,7 @@ use lib.ListN.{length, get_or}
 use Rattle.logic.specs.Query.{Query, term_count}
 use Rattle.logic.specs.Facts.{Facts, clash}
 use Rattle.logic.specs.Rules.{Rule, rules, triple, Move, move, Fact, applies, branch, branches, choose}
-use Rattle.logic.specs.Decision.{HasHeap, Closes}
+use Rattle.logic.specs.Decision.{HasHeap, NoHeap, Closes}
 use Rattle.theory.proofs.Basics.Compare.{eq_cases}
 use Rattle.theory.proofs.Query.Tied.{Accepted}
 use Rattle.theory.proofs.Paths.Applies.{has_link_range, applies_linked}
@@ -18,21 +19,13 @@ use Rattle.theory.proofs.Calls.Decision.{Known, saturated_heap, open_branch, bra
 use Rattle.alternatives.specs.Alternatives.{count_of, alternative_at}
 use Rattle.facts.specs.Path.{path_of, HasLink}
 use Rattle.facts.specs.declared.Facts as code
-use Rattle.kinds.specs.Kinds.{is_refuted}
-use Rattle.kinds.specs.declared.Kind.{Kind}
-use Rattle.kinds.specs.declared.Kind.TheVariants as kind
 use Rattle.plain_steps.proofs.Branches.{row-length, row_at}
-use Rattle.plain_steps.proofs.Cases.{refuted_open, refuted_unknown, open_unknown}
 use Rattle.covering.specs.Covers.{Covers}
 use Rattle.nogoods.specs.Nogoods.{Nogood, Excludes}
-use Rattle.nogoods.specs.declared.Tried.{Tried}
 use Rattle.nogoods.proofs.Nogoods.{bounded, nogood_covered, excludes_covered, nogood_path}
-use Rattle.backjumping.specs.Finds.{Sees, Carries, Finds, Tells}
-use Rattle.backjumping.specs.declared.Seen.{Seen}
-
--- what is seen, once the code's answer is known
-pub seen_as : (q : Query) (s : Facts) (v v' : Seen) → Sees q s v → v ≡ v' → Sees q s v'
-seen_as q s v v' h e = subst (Sees q s) e h
+use Rattle.backjumping.specs.Finds.{Carries, Finds}
+use Rattle.backjumping.specs.declared.Answer.{Answer}
+use Rattle.backjumping.specs.declared.Answer.TheVariants as answer
 
 pub fewer_left : (k t : ℕ) → (k ≡ 0 → ⊥) → k ≡ t → k - 1 < t
 fewer_left k t ne e = omega arith
@@ -43,27 +36,15 @@ applied_linked n s k r x y z app =
     let l = has_link_range s.links k r (triple x y z) (applies_linked n s (move k r (triple x y z)) app) in
     (omega (arith, l), l.1)
 
-module _ (q : Query) (s : Facts) (k : Kind) (f : Facts) where
-  pub finds_nothing : k ≡ kind.Unknown → Finds q s k f
-  finds_nothing e = record { refuted = λ g. absurd (refuted_unknown (sym g ∙ e)); has = λ g. absurd (open_unknown (sym g ∙ e)) }
+module _ (q : Query) (s : Facts) where
+  pub finds_carried : (tried : Option code.Facts) → IfSome tried (λ d. Nogood q (path_of d)) → (r : Answer) → Carries s tried r → Finds q s r
+  finds_carried tried free (answer.Refuted f) c = c q free
+  finds_carried tried free (answer.Open f) c = absurd c
+  finds_carried tried free answer.Unknown c = c
 
-  pub tells_nothing : k ≡ kind.Unknown → Tells q s k f
-  tells_nothing e = record { refuted = λ g. absurd (refuted_unknown (sym g ∙ e)); has = λ g. absurd (open_unknown (sym g ∙ e)) }
-
-  pub finds_carried : (tried : Tried) → Carries s tried k f → (tried.found ≡ true → Nogood q (path_of tried.facts)) → Finds q s k f
-  finds_carried tried c free = record { refuted = λ e. c.refuted e q free; has = λ e. absurd (c.never_open e) }
-
-  pub tells_finds : (ok : Accepted q) → Known q s → s.rep 0 ≡ 0 → (g : code.Facts) → f ≡ path_of g → Finds q s k f → Tells q s k f
-  tells_finds ok known unmoved g is found =
-      record {
-        refuted = λ e.
-            let (free, cov) = found.refuted e in
-            nogood_path q ok s known unmoved (nogood_covered q s f (subst (λ (x : Facts). (t : ℕ) → 16 < t → x.rep t ≡ t) (sym is) (bounded g)) cov free);
-        has = found.has;
-      }
-
-pub carries_nothing : (s : Facts) (tried : Tried) (k : Kind) (f : Facts) → k ≡ kind.Unknown → Carries s tried k f
-carries_nothing s tried k f e = record { refuted = λ g. absurd (refuted_unknown (sym g ∙ e)); never_open = λ g. absurd (open_unknown (sym g ∙ e)) }
+  -- the nogood that the path holds leaves it no heap
+  pub no_heap : Accepted q → Known q s → s.rep 0 ≡ 0 → (d : code.Facts) → Finds q s (answer.Refuted d) → NoHeap q s
+  no_heap ok known unmoved d (free, cov) = nogood_path q ok s known unmoved (nogood_covered q s (path_of d) (bounded d) cov free)
 
 -- one alternative more is excluded
 pub excludes_more : (q : Query) (w d : code.Facts) (f : ℕ → Fact) (at : ℕ) → Covers (path_of w) (path_of d) → ((i : ℕ) → i < at → Excludes q (path_of d) (f i)) → Excludes q (path_of w) (f at) → (i : ℕ) → i < at + 1 → Excludes q (path_of w) (f i)
@@ -80,10 +61,8 @@ module _ {q : Query} (ok : Accepted q) (s t : Facts) (known : Known q s) (n : �
   pub known_closed : Known q t
   known_closed = closed_known q ok s t known closes
 
-  pub finds_saturated : clash q t ≡ none → choose (term_count q) rules t ≡ none → Finds q s kind.Open t
-  finds_saturated free idle =
-      let h = saturated_heap q ok t known_closed rules rules_full free idle in
-      record { refuted = λ e. absurd (refuted_open (sym e)); has = λ e. (heap_closed q ok s t known closes h, h) }
+  pub finds_saturated : clash q t ≡ none → choose (term_count q) rules t ≡ none → HasHeap q s × HasHeap q t
+  finds_saturated free idle = let h = saturated_heap q ok t known_closed rules rules_full free idle in (heap_closed q ok s t known closes h, h)
 
   module _ (k : ℕ) (r : Rule) (x y z : ℕ) (app : applies (term_count q) t (move k r (triple x y z)) ≡ true) where
     abbrev m : Move
@@ -100,11 +79,5 @@ module _ {q : Query} (ok : Accepted q) (s t : Facts) (known : Known q s) (n : �
       pub known-branch : Known q u
       known-branch = subst (Known q) at (branch_at q ok t known_closed m app i in_row)
 
-      pub finds_branch : (w : Kind) (f : Facts) → Finds q u w f → is_refuted w ≡ false → Finds q s w f
-      finds_branch w f found ne =
-          record {
-            refuted = λ g. absurd (true≢false (sym (ap is_refuted g) ∙ ne));
-            has = λ g.
-                let (h, h') = found.has g in
-                (heap_closed q ok s t known closes (open_branch q ok t known_closed m app i in_row (subst (HasHeap q) (sym at) h)), h');
-          }
+      pub open_here : HasHeap q u → HasHeap q s
+      open_here h = heap_closed q ok s t known closes (open_branch q ok t known_closed m app i in_row (subst (HasHeap q) (sym at) h))

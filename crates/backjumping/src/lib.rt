@@ -2,164 +2,120 @@
 // branches need no look.
 #![tactic(auto)]
 
-ghost use Rattle.std.specs.Prelude.{◌≡◌, true, ℕ, ◌≤◌};
-ghost use Rattle.logic.specs.Query.{Query};
-ghost use Rattle.logic.specs.Decision.{HasHeap, NoHeap};
+ghost use Rattle.std.specs.Prelude.{◌≡◌, true, ℕ, ◌≤◌, IfOk};
 ghost use Rattle.theory.proofs.Query.Tied.{Accepted};
 ghost use Rattle.theory.proofs.Calls.Decision.{Known};
 ghost use Rattle.facts.specs.Path.{path_of};
 ghost use Rattle.link_query.specs.Said.{said, Within};
-ghost use Rattle.kinds.specs.declared.Kind.TheVariants as kind;
-ghost use Rattle.covering.specs.Covers.{Covers};
-ghost use Rattle.nogoods.specs.Nogoods.{Nogood};
 ghost use Rattle.backjumping.specs.Finds.{Finds, Sees, Carries, Tells};
 
-use clash::Clash;
 use facts::Facts;
-use kinds::Kind;
-use link_rows::Link;
-use nogoods::{Branched, Move, Tried};
+use nogoods::Branched;
+use picking::Strategy;
 use query::Layout;
-use rows::Term;
-use rules::{Choice, Rule, Third};
+use walk::Seen;
 
-// What is found out of a path, the budget left, and facts: where it is refuted a nogood that it holds, where it is open a path with a heap.
+// What is found out of a path: that it is refuted, with a nogood that it holds; that it is open, with a path that has a heap; or nothing.
 #[derive(Drop)]
-pub struct Answer {
-    pub kind: Kind,
-    pub budget: usize,
-    pub facts: Facts,
+pub enum Answer {
+    Refuted(Facts),
+    Open(Facts),
+    Unknown,
 }
 
-// What is seen at a path.
-#[derive(Drop)]
-enum Seen {
-    Clashing(usize, usize, usize),
-    Applying(Link, Rule, Term, Term, Third),
-    Saturated,
-}
+// Nothing is found out of a path: the budget ran out.
+#[derive(Clone, Copy)]
+pub struct Undecided;
 
-// What is seen at a closed path: its clash, the rule that is picked, or neither.
-fn sees(query: &[u8], layout: Layout, s: Facts) -> Seen
+// What a strategy sees at a closed path: its clash, the rule that it picks, or neither.
+pub fn sees(query: &[u8], layout: Layout, strategy: Strategy, s: &Facts) -> Seen
     requires { Within layout query.now }
-    ensures { Sees (said layout query.now) (path_of s) result }
+    ensures { Sees (said layout query.now) (path_of s.now) result }
 {
-    if let Clash::At(section, i, j) = clash::find_clash(query, layout, &s.rep, s.single, &s.reach) {
-        return Seen::Clashing(section, i, j);
+    if let Some(clash) = clash::find_clash(query, layout, s) {
+        return Seen::Clashing(clash);
     }
-    let Choice::Apply(k, rule, x, y, z) = picking::pick(query, layout, 0, s) else {
-        return Seen::Saturated;
-    };
-    Seen::Applying(k, rule, x, y, z)
-}
-
-// Nothing is found out of a path.
-fn unknown(s: Facts) -> Answer
-    ensures { result.kind ≡ kind.Unknown }
-{
-    Answer {
-        kind: Kind::Unknown,
-        budget: 0,
-        facts: s,
+    match picking::pick(query, layout, strategy, s) {
+        Some(m) => Seen::Applying(m),
+        None => Seen::Saturated,
     }
 }
 
-// The answer of a path, by a nogood of its closure.
-fn carried(n: usize, s: Facts, tried: Tried, budget: usize) -> Answer
+// The answer of a path, by a nogood of its closure, if one was found.
+fn carried(n: usize, s: &Facts, nogood: Option<Facts>) -> Answer
     requires { n ≤ 16 }
-    ensures { Carries (path_of s) tried result.kind (path_of result.facts) }
+    ensures { Carries (path_of s.now) nogood result }
 {
-    if !tried.found {
-        return unknown(s);
-    }
-    let nogood = tried.facts;
-    let back = nogoods::before_closing(n, s, nogood);
-    if !back.found {
-        return unknown(s);
-    }
-    let facts = back.facts;
-    Answer {
-        kind: Kind::Refuted,
-        budget,
-        facts,
+    let Some(found) = nogood else {
+        return Answer::Unknown;
+    };
+    match nogoods::before_closing(n, s, &found) {
+        Some(back) => Answer::Refuted(back),
+        None => Answer::Unknown,
     }
 }
 
 // The search: the path is closed, and then branches where a rule applies. A branch whose nogood the path holds settles it.
-fn refute(query: &[u8], layout: Layout, left: usize, s: Facts, budget: usize) -> Answer
-    requires { Within layout query.now × Accepted (said layout query.now) × Known (said layout query.now) (path_of s) }
-    ensures { Finds (said layout query.now) (path_of s) result.kind (path_of result.facts) }
+fn refute(query: &[u8], layout: Layout, left: usize, s: &Facts, budget: &mut usize) -> Answer
+    requires { Within layout query.now × Accepted (said layout query.now) × Known (said layout query.now) (path_of s.now) }
+    ensures { Finds (said layout query.now) (path_of s.now) result }
 {
     let n = layout.terms;
-    let closed = closing::close(s, n);
-    match sees(query, layout, closed) {
-        Seen::Saturated => Answer {
-            kind: Kind::Open,
-            budget,
-            facts: closed,
-        },
-        Seen::Clashing(section, i, j) => {
-            let found = nogoods::of_clash(query, layout, closed, section, i, j);
-            carried(n, s, found, budget)
-        }
-        Seen::Applying(link, rule, x, y, z) => {
+    let mut closed = *s;
+    closing::close(&mut closed, n);
+    match sees(query, layout, Strategy::Gains, &closed) {
+        Seen::Saturated => Answer::Open(closed),
+        Seen::Clashing(clash) => carried(n, s, nogoods::of_clash(query, layout, &closed, clash)),
+        Seen::Applying(m) => {
             if left == 0 {
-                return unknown(s);
+                return Answer::Unknown;
             }
-            let m = Move {
-                link,
-                rule,
-                x,
-                y,
-                z,
-            };
-            let total = alternatives::count(rule, z);
-            let mut fuel = budget;
-            let mut need = nogoods::no_facts(s.single);
-            let mut at: usize = 0;
-            while at < total {
-                if fuel == 0 {
-                    return unknown(s);
+            let mut need = Facts::unjoined(s.single);
+            for at in 0..alternatives::count(m) {
+                if *budget == 0 {
+                    return Answer::Unknown;
                 }
-                let joined = branch::branch(closed, n, link, rule, x, y, z, at);
-                let path = joined.facts;
+                *budget -= 1;
+                let mut path = closed;
+                branch::take(&mut path, n, m, at);
+                let nogood = match refute(query, layout, left - 1, &path, budget) {
+                    Answer::Refuted(nogood) => nogood,
+                    Answer::Open(end) => return Answer::Open(end),
+                    Answer::Unknown => return Answer::Unknown,
+                };
+                if covering::covers(&closed, &nogood) {
+                    return carried(n, s, Some(nogood));
+                }
                 let names = path.rep;
-                let w = refute(query, layout, left - 1, path, fuel - 1);
-                let kind = w.kind;
-                if !kinds::is_refuted(kind) {
-                    return w;
-                }
-                fuel = w.budget;
-                let nogood = w.facts;
-                if covering::covers(closed, nogood) {
-                    let held = Tried {
-                        found: true,
-                        facts: nogood,
-                    };
-                    return carried(n, s, held, fuel);
-                }
                 let branched = Branched { names, nogood };
-                let grown = nogoods::excluding(n, need, closed, branched, m, at);
-                if !grown.found {
-                    return unknown(s);
-                }
-                let more = grown.facts;
-                need = more;
-                at += 1;
+                let Some(grown) = nogoods::excluding(n, &need, &closed, &branched, m, at) else {
+                    return Answer::Unknown;
+                };
+                need = grown;
             }
-            let found = nogoods::of_rule(n, need, closed, m);
-            carried(n, s, found, fuel)
+            carried(n, s, nogoods::of_rule(n, &need, &closed, m))
         }
     }
 }
 
-// Whether some finite heap meets the query and the facts of a path, if it is found out.
-pub fn search(query: &[u8], layout: Layout, left: usize, s: Facts, budget: usize) -> Answer
-    requires { Within layout query.now × Accepted (said layout query.now) × Known (said layout query.now) (path_of s) }
-    ensures { Tells (said layout query.now) (path_of s) result.kind (path_of result.facts) }
+// Whether some finite heap meets the query and the facts of a path: where one does, a path with a heap.
+pub fn search(
+    query: &[u8],
+    layout: Layout,
+    left: usize,
+    s: &Facts,
+    budget: usize,
+) -> Result<Option<Facts>, Undecided>
+    requires { Within layout query.now × Accepted (said layout query.now) × Known (said layout query.now) (path_of s.now) }
+    ensures { IfOk result (Tells (said layout query.now) (path_of s.now)) }
 {
     if s.rep[0] != 0 {
-        return unknown(s);
+        return Err(Undecided);
     }
-    refute(query, layout, left, s, budget)
+    let mut steps = budget;
+    match refute(query, layout, left, s, &mut steps) {
+        Answer::Refuted(_) => Ok(None),
+        Answer::Open(path) => Ok(Some(path)),
+        Answer::Unknown => Err(Undecided),
+    }
 }

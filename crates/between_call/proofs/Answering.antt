@@ -2,9 +2,10 @@
 use Prim.Native.Nat.{ℕ, ◌+◌, ◌-◌, ◌≤◌, ◌<◌}
 use native.Mathlib.Omega.{arith}
 use mathlib.Core.Path.{◌≡◌, refl, sym, ap, ◌∙◌, subst}
-use mathlib.Core.Bool.{Bool, true, false}
+use mathlib.Core.Bool.{Bool}
 use mathlib.Core.List.{List, [], ◌∷◌}
 use mathlib.Core.Option.{none, some, Option-elim}
+use Rattle.std.specs.Prelude.{Result, Ok, Err}
 use lib.ListN.{length, take, drop, replicate, length-drop}
 use lib.Seq.{take-length}
 use borrow.Author.Tests.{lt-ltb, le-ltb}
@@ -12,7 +13,6 @@ use Rattle.logic.specs.Search.{keep, or_else, first_of}
 use Rattle.logic.specs.Query.{first_byte, term_count}
 use Rattle.logic.specs.Calls.{Input, room_check, Answer, refused, refusal_of, padded, blank, room_under}
 use Rattle.theory.proofs.Calls.CallLaws.{refusal_of-append}
-use Rattle.theory.proofs.Basics.Search.{keep-true, keep-false}
 use Rattle.query.specs.declared.Layout.{Layout}
 use Rattle.query.proofs.Ranges.{entry_below}
 use Rattle.between.specs.Meaning.{BetweenQuery}
@@ -23,8 +23,9 @@ use Rattle.between_search.proofs.Promised.{size_small, node_small}
 use Rattle.between_tests.specs.Tables.{Opposed, literals_in}
 use Rattle.between_checks.specs.declared.SixLayout.{SixLayout}
 use Rattle.between_checks.specs.Answers.{SixSections}
-use Rattle.between_seek.specs.declared.Searched.{Searched}
-use Rattle.between_seek.specs.Answers.{query_in, found_of, Given}
+use Rattle.between_seek.specs.Answers.{query_in, Given}
+use Rattle.refusals.specs.declared.Refusal.{Refusal}
+use Rattle.refusals.specs.Numbers.{number_of}
 use Rattle.between_call.specs.declared.BetweenAnswer.{BetweenAnswer}
 use Rattle.between_call.specs.declared.BetweenAnswer.TheVariants as answer
 use Rattle.between_call.specs.Promise.{Does, Reportable, Asked}
@@ -54,7 +55,7 @@ module _ (i : Input) where
 
 -- The outcome
 
-module _ (query : List ℕ) (room : ℕ) (r : BetweenAnswer) (bytes : List ℕ) where
+module _ (query : List ℕ) (room : ℕ) (r : Result BetweenAnswer Refusal) (bytes : List ℕ) where
   refused_does : (a : Answer) → refusal_of between_checks (given query room) ≡ some a → Does (blank room a) r bytes → Does (between_call query room) r bytes
   unfolding between_call Option-elim
   refused_does a e d = rw e d
@@ -72,9 +73,9 @@ module _ (query : List ℕ) (room : ℕ) (r : BetweenAnswer) (bytes : List ℕ) 
   unfolding between_call Option-elim
   searched_does e d = rw e d
 
-pub blank_does : (room k place : ℕ) (bytes : List ℕ) → bytes ≡ replicate room 0 → Does (blank room (refused k place)) (answer.Refused k place) bytes
+pub blank_does : (room : ℕ) (e : Refusal) (bytes : List ℕ) → bytes ≡ replicate room 0 → Does (blank room (refused (number_of e.fault) e.place)) (Err e) bytes
 unfolding blank
-blank_does room k place bytes e = record { answers = refl; leaves = e }
+blank_does room r bytes e = record { answers = refl; leaves = e }
 
 -- What the search is given, and what it says
 
@@ -87,26 +88,17 @@ module _ (base : List ℕ) (l : Layout) (between : List ℕ) (count : ℕ) (aske
         opposed = opposed;
       }
 
-  module _ (r : Searched) (found : found_of r ≡ heap_found (query_in base between)) where
-    pub none_does : r.found ≡ false → (room : ℕ) (bytes : List ℕ) → bytes ≡ replicate room 0 → Does (searched (query_in base between) room) answer.Nothing bytes
-    unfolding searched blank Option-elim
-    none_does e room bytes z =
-        let o : heap_found (query_in base between) ≡ none = sym found ∙ keep-false _ e in
-        rw o (record { answers = refl; leaves = z })
+  pub none_does : heap_found (query_in base between) ≡ none → (room : ℕ) (bytes : List ℕ) → bytes ≡ replicate room 0 → Does (searched (query_in base between) room) (Ok answer.Nothing) bytes
+  unfolding searched blank Option-elim
+  none_does o room bytes z = rw o (record { answers = refl; leaves = z })
 
-    module _ (some_heap : r.found ≡ true) where
-      abbrev c : Found
-      c = record { links = r.links; nodes = r.nodes }
+  module _ (c : Found) (heap_is : heap_found (query_in base between) ≡ some c) where
+    pub heap_does : (room : ℕ) (bytes : List ℕ) → bytes ≡ padded room (report_of (query_in base between) c) → Does (searched (query_in base between) room) (Ok answer.Heap) bytes
+    unfolding searched Option-elim
+    heap_does room bytes z = rw heap_is (record { answers = refl; leaves = z })
 
-      heap_is : heap_found (query_in base between) ≡ some c
-      heap_is = sym found ∙ keep-true c some_heap
-
-      pub heap_does : (room : ℕ) (bytes : List ℕ) → bytes ≡ padded room (report_of (query_in base between) c) → Does (searched (query_in base between) room) answer.Heap bytes
-      unfolding searched Option-elim
-      heap_does room bytes z = rw heap_is (record { answers = refl; leaves = z })
-
-      pub reportable : Reportable l base r.links r.nodes
-      reportable = let small = asked.small c heap_is in record { laid = asked.laid; passes = asked.passes; few_links = small.0; few_nodes = small.1 }
+    pub reportable : Reportable l base c.links c.nodes
+    reportable = let small = asked.small c heap_is in record { laid = asked.laid; passes = asked.passes; few_links = small.0; few_nodes = small.1 }
 
 -- six sections that pass all checks
 
@@ -145,6 +137,6 @@ module _ (query : List ℕ) (s : SixLayout) (six : SixSections s query) where
       terms_same : s.base.terms ≡ term_count (decode_six query).base
       terms_same = six.laid.term_count_lem ∙ ap (λ (q : BetweenQuery). term_count q.base) (sym six.says)
 
-  pub answer_does : (room : ℕ) (r : BetweenAnswer) (bytes : List ℕ) → refusal_of between_checks (given query room) ≡ none →
+  pub answer_does : (room : ℕ) (r : Result BetweenAnswer Refusal) (bytes : List ℕ) → refusal_of between_checks (given query room) ≡ none →
       Does (searched (query_in (take s.at query) (tail query (s.at + 1))) room) r bytes → Does (between_call query room) r bytes
   answer_does room r bytes passed d = searched_does query room r bytes passed (subst (λ (q : BetweenQuery). Does (searched q room) r bytes) (sym says) d)

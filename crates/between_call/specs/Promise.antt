@@ -1,22 +1,24 @@
 -- What the between call promises, on every input: the answer, and every byte of what is lent.
-use Rattle.std.specs.Prelude.{ℕ, ◌*◌, ◌≤◌, ◌≡◌, true, List, length}
+use Rattle.std.specs.Prelude.{ℕ, ◌*◌, ◌≤◌, ◌≡◌, true, List, length, Result, Ok, Err}
 use Rattle.std.proofs.Math.Option.{some}
 use Rattle.logic.specs.Calls.{Answer, refused, satisfiable, refuted, Outcome, accepts}
 use Rattle.query.specs.declared.Layout.{Layout}
 use Rattle.query.specs.LaysOut.{LaysOut}
 use Rattle.between_search.specs.Search.{Found, entry, heap_found}
 use Rattle.between_seek.specs.Answers.{query_in}
+use Rattle.refusals.specs.declared.Refusal.{Refusal}
+use Rattle.refusals.specs.Numbers.{number_of}
 use Rattle.between_call.specs.declared.BetweenAnswer.{BetweenAnswer}
 use Rattle.between_call.specs.declared.BetweenAnswer.TheVariants as answer
 
--- what each case of the enum says
-abbrev pub meaning : BetweenAnswer → Answer
-meaning answer.Heap = satisfiable
-meaning answer.Nothing = refuted
-meaning (answer.Refused k place) = refused k place
+-- what each answer says
+abbrev pub meaning : Result BetweenAnswer Refusal → Answer
+meaning (Ok answer.Heap) = satisfiable
+meaning (Ok answer.Nothing) = refuted
+meaning (Err e) = refused (number_of e.fault) e.place
 
 -- the call does what a definition says: it answers so, and leaves these bytes
-pub record Does (outcome : Outcome) (r : BetweenAnswer) (bytes : List ℕ) : Type 0 where
+pub record Does (outcome : Outcome) (r : Result BetweenAnswer Refusal) (bytes : List ℕ) : Type 0 where
   pub answers : meaning r ≡ outcome.answer
   pub leaves : bytes ≡ outcome.lent
 

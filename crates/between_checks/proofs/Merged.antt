@@ -1,31 +1,57 @@
 -- The bytes of the sixth section, literal by literal; and refusals 2 to 8 and 26 of six sections from those of the five and of the sixth.
-use Prim.Native.Nat.{ℕ, ◌+◌, ◌≤◌, ◌<◌}
+use Prim.Native.Nat.{ℕ, zero, suc, ◌+◌, ◌-◌, ◌≤◌, ◌<◌}
 use native.Mathlib.Omega.{arith}
 use native.Mathlib.Nat.{sub-zero, sub-eq-zero_of_le}
 use mathlib.Core.Path.{◌≡◌, refl, sym, ap, ◌∙◌, subst}
-use mathlib.Core.Logic.{◌⊎◌, ⊎_elim, inl, inr}
-use mathlib.Core.List.Memᴰ
+use mathlib.Core.Logic.{◌⊎◌, ⊎_elim}
 use mathlib.Core.List.{List, [], ◌∷◌, ◌++◌}
 use mathlib.Core.Option.{none, some}
+use Rattle.std.specs.Prelude.{Ok}
 use lib.ListN.{length, get_or, take, drop}
 use Rattle.logic.specs.Search.{from, flat_map, or_else, first_of}
-use Rattle.logic.specs.Query.{Role, sections, faulty, parts, layout, layout_by, layout_of, first_byte, role_fault, byte_fault}
-use Rattle.logic.specs.Calls.{Input, refused, refusal_of}
-use Rattle.theory.proofs.Query.Bytes.{layout_numbers, LayoutNumber, Numbered, layout_numbered}
+use Rattle.logic.specs.Query.{Role, term_role, sections, faulty, parts, layout, layout_by, layout_of, first_byte, role_fault, byte_fault}
+use Rattle.logic.specs.Calls.{Input, query_checks, refused, refusal_of}
+use Rattle.theory.proofs.Query.Bytes.{LayoutNumber, Numbered, layout_numbered}
 use Rattle.theory.proofs.Query.AcceptedBytes.{sections-excesses}
 use Rattle.query.specs.declared.Layout as code
-use Rattle.query_checks.specs.declared.Checked.TheVariants as five_checked
 use Rattle.query_checks.specs.Answers.{CheckedAs}
 use Rattle.query_checks.proofs.Checks.{layout_refused}
 use Rattle.query_checks.proofs.Checks.{checked-accepts}
 use Rattle.entries.proofs.Faults.{or_else-some, or_else_next, append_here, append_next, entries_left, entries_next}
 use Rattle.between_search.specs.Bytes.{between_section, six_sections, six_layout, six_checks}
 use Rattle.between_search.proofs.Accepted.{six_excesses}
-use Rattle.between_checks.specs.declared.Met.TheVariants as met
-use Rattle.between_checks.specs.declared.SixChecked.TheVariants as checked
-use Rattle.between_checks.specs.Answers.{triple_roles, sixth_fault, SixthBelow, Sixth, SixCheckedAs}
+use Rattle.between_checks.specs.Answers.{triple_roles, sixth_fault, Sixth, SixCheckedAs}
 use Rattle.between_checks.proofs.Told.{nat_cases, answer_at, First, first_is, none_is, faults, form-bytes, told_refused, told_accepted}
 use Rattle.between_checks.proofs.Six.{early, ended, Five, five, sixth_other, sixth_refused, laid_five, terms_five, six_laid, six_says, six_fault}
+
+-- The answers, for a number and a place
+abbrev pub FiveRefused : ℕ → ℕ → List ℕ → Type 0
+FiveRefused k place bytes = (i : Input) → i.query ≡ bytes → refusal_of query_checks i ≡ some (refused k place)
+
+abbrev pub SixRefused : ℕ → ℕ → List ℕ → Type 0
+SixRefused k place bytes = (i : Input) → i.query ≡ bytes → refusal_of six_checks i ≡ some (refused k place)
+
+abbrev pub FirstBelow : ℕ → ℕ → ℕ → ℕ → ℕ → List ℕ → ℕ → Type 0
+FirstBelow k place n at count bytes limit =
+    (5 ≤ k) × (k ≤ 8) × (k < limit) × (sixth_fault k n at count bytes ≡ some place) × ((j : ℕ) → 6 ≤ j → j < k → sixth_fault j n at count bytes ≡ none)
+
+abbrev pub NoneBelow : ℕ → ℕ → ℕ → List ℕ → ℕ → Type 0
+NoneBelow n at count bytes limit = (j : ℕ) → 6 ≤ j → j < limit → j ≤ 7 → sixth_fault j n at count bytes ≡ none
+
+-- The term numbers that are left of a literal
+
+abbrev pub terms_left : ℕ → ℕ → List Role
+terms_left n zero = []
+terms_left n (suc m) = term_role n ∷ terms_left n m
+
+pub terms_end : (n m i : ℕ) → m ≤ i → terms_left n (m - i) ≡ []
+terms_end n m i h = ap (terms_left n) (sub-eq-zero_of_le h)
+
+pub terms_next : (n m i : ℕ) → i < m → terms_left n (m - i) ≡ term_role n ∷ terms_left n (m - (i + 1))
+terms_next n m i h = ap (terms_left n) left
+  where
+    left : m - i ≡ suc (m - (i + 1))
+    left = omega arith
 
 -- The literals left of `count` behind the first i
 
@@ -58,15 +84,6 @@ six_bytes : (bytes : List ℕ) (ps : List (List ℕ)) → six_layout bytes ≡ p
 unfolding six_layout six_checks
 six_bytes bytes ps e i q = form-bytes six_sections bytes ps e i q
 
--- a refusal of the walk from the front is 26 or not above 4
-number_cases : (k : ℕ) → LayoutNumber k → (k ≤ 4) ⊎ (k ≡ 26)
-unfolding layout_numbers
-number_cases k (Memᴰ.head e) = inl (omega arith)
-number_cases k (Memᴰ.tail (Memᴰ.head e)) = inl (omega arith)
-number_cases k (Memᴰ.tail (Memᴰ.tail (Memᴰ.head e))) = inr e
-number_cases k (Memᴰ.tail (Memᴰ.tail (Memᴰ.tail (Memᴰ.head e)))) = inl (omega arith)
-number_cases k (Memᴰ.tail (Memᴰ.tail (Memᴰ.tail (Memᴰ.tail m)))) = absurd (Memᴰ.not-nil m)
-
 module _ (bytes : List ℕ) (at count n : ℕ) (sixth : Sixth bytes at count) (first : n ≡ get_or bytes 0 0) where
   f : Five bytes at
   f = five bytes at sixth.follows
@@ -88,7 +105,7 @@ module _ (bytes : List ℕ) (at count n : ℕ) (sixth : Sixth bytes at count) (f
   five-none j q = subst (λ (x : ℕ). sixth_fault x n (at + 1) count bytes ≡ none) q (sixth_other 5 n (at + 1) count bytes refl refl)
 
   -- none of 6 and 7 below the limit is none of 5 to 8
-  sixth-none : (limit : ℕ) → SixthBelow met.Nothing n (at + 1) count bytes limit → (j : ℕ) → 5 ≤ j → j < limit → j < 9 → sixth_fault j n (at + 1) count bytes ≡ none
+  sixth-none : (limit : ℕ) → NoneBelow n (at + 1) count bytes limit → (j : ℕ) → 5 ≤ j → j < limit → j < 9 → sixth_fault j n (at + 1) count bytes ≡ none
   sixth-none limit h j a b c =
       ⊎_elim (five-none j)
       (λ l. ⊎_elim
@@ -99,7 +116,7 @@ module _ (bytes : List ℕ) (at count n : ℕ) (sixth : Sixth bytes at count) (f
 
   -- the sixth meets a refusal below the first that the five meet
   pub sixth-met : (limit k place : ℕ) → ((j : ℕ) → 5 ≤ j → j < limit → byte_fault sections j (take at bytes) ≡ none) →
-      SixthBelow (met.Refused k place) n (at + 1) count bytes limit → SixCheckedAs (checked.Refused k place) bytes
+      FirstBelow k place n (at + 1) count bytes limit → SixRefused k place bytes
   sixth-met limit k place before s i q =
       six_bytes bytes six_parts laid i q
       ∙ first_is (faults six_sections bytes) 4 5 k place
@@ -110,7 +127,7 @@ module _ (bytes : List ℕ) (at count n : ℕ) (sixth : Sixth bytes at count) (f
         here = faults_are k ∙ or_else_next _ (before k s.0 s.2) ∙ s.3;
       })
 
-  pub five-met : (k place : ℕ) → First (λ j. byte_fault sections j (take at bytes)) 5 9 k place → SixthBelow met.Nothing n (at + 1) count bytes k → SixCheckedAs (checked.Refused k place) bytes
+  pub five-met : (k place : ℕ) → First (λ j. byte_fault sections j (take at bytes)) 5 9 k place → NoneBelow n (at + 1) count bytes k → SixRefused k place bytes
   five-met k place r s i q =
       six_bytes bytes six_parts laid i q
       ∙ first_is (faults six_sections bytes) 4 5 k place
@@ -122,17 +139,17 @@ module _ (bytes : List ℕ) (at count n : ℕ) (sixth : Sixth bytes at count) (f
       })
 
   -- what the five's checks say
-  pub five_refused : (k place : ℕ) → CheckedAs (five_checked.Refused k place) (take at bytes) → First (λ j. byte_fault sections j (take at bytes)) 5 9 k place
+  pub five_refused : (k place : ℕ) → FiveRefused k place (take at bytes) → First (λ j. byte_fault sections j (take at bytes)) 5 9 k place
   five_refused k place h = ⊎_elim (λ e. absurd (parts_faulty (sym (laid_five bytes at f) ∙ e))) (λ r. r.2) (told_refused (take at bytes) k place h)
     where
       parts_faulty : {k place : ℕ} {ps : List (List ℕ)} → parts ps ≡ faulty k place → ⊥
       parts_faulty e = let z : ◌≡◌ {A = ℕ} 0 1 = cc in omega arith
 
-  pub five_accepted : (l : code.Layout) → CheckedAs (five_checked.Accepted l) (take at bytes) → (j : ℕ) → 5 ≤ j → j < 9 → byte_fault sections j (take at bytes) ≡ none
+  pub five_accepted : (l : code.Layout) → CheckedAs (Ok l) (take at bytes) → (j : ℕ) → 5 ≤ j → j < 9 → byte_fault sections j (take at bytes) ≡ none
   five_accepted l h = (told_accepted (take at bytes) h.0).2
 
-  pub all_passed : (l : code.Layout) → CheckedAs (five_checked.Accepted l) (take at bytes) → SixthBelow met.Nothing n (at + 1) count bytes 9 →
-      SixCheckedAs (checked.Accepted (record { base = l; at = at; count = count })) bytes
+  pub all_passed : (l : code.Layout) → CheckedAs (Ok l) (take at bytes) → NoneBelow n (at + 1) count bytes 9 →
+      SixCheckedAs (Ok (record { base = l; at = at; count = count })) bytes
   all_passed l h s = (
     λ i q. six_bytes bytes six_parts laid i q ∙ none_is (faults six_sections bytes) 4 5 (λ j a b. no_fault j (five_accepted l h j a b) (sixth-none 9 s j a b b)),
     record {
@@ -147,37 +164,29 @@ module _ (bytes : List ℕ) (at count n : ℕ) (sixth : Sixth bytes at count) (f
 -- What the checks of all the bytes say, taken for five sections
 
 module _ (bytes : List ℕ) where
-  pub accepted_ends : (l : code.Layout) → CheckedAs (five_checked.Accepted l) bytes → SixCheckedAs (checked.Refused 2 (length bytes)) bytes
+  pub accepted_ends : (l : code.Layout) → CheckedAs (Ok l) bytes → SixRefused 2 (length bytes) bytes
   accepted_ends l h = let r = told_accepted bytes h.0 in six_refused bytes 2 (length bytes) (ended bytes r.0 r.1)
 
-  pub refused_early : (k place : ℕ) → (k < 4) ⊎ (k ≡ 26) → CheckedAs (five_checked.Refused k place) bytes → SixCheckedAs (checked.Refused k place) bytes
+  pub refused_early : (k place : ℕ) → (k < 4) ⊎ (k ≡ 26) → FiveRefused k place bytes → SixRefused k place bytes
   refused_early k place l h =
       ⊎_elim (λ e. six_refused bytes k place (early bytes k place (λ q. ⊎_elim (λ u. omega arith) (λ u. omega arith) l) e))
       (λ r. absurd (⊎_elim (λ u. omega (arith, r.2.from_on)) (λ u. omega (arith, r.2.below)) l))
       (told_refused bytes k place h)
 
-  pub refused_ends : (k place : ℕ) → 4 < k → (k ≡ 26 → ⊥) → CheckedAs (five_checked.Refused k place) bytes → SixCheckedAs (checked.Refused 2 (length bytes)) bytes
+  pub refused_ends : (k place : ℕ) → (LayoutNumber k → ⊥) → FiveRefused k place bytes → SixRefused 2 (length bytes) bytes
   unfolding layout_of layout_by
-  refused_ends k place l d h =
+  refused_ends k place other h =
       ⊎_elim
       (λ e. let numbered : Numbered (faulty k place) = rw e at (layout_numbered (sections (first_byte bytes)) 0 bytes (sections-excesses (first_byte bytes))) in
-      absurd (⊎_elim (λ u. omega arith) d (number_cases k numbered)))
+      absurd (other numbered))
       (λ r. six_refused bytes 2 (length bytes) (ended bytes r.0 r.1))
       (told_refused bytes k place h)
 
-  pub follows-five : (k place : ℕ) → k ≡ 4 → CheckedAs (five_checked.Refused k place) bytes → layout_of bytes ≡ faulty 4 place
+  pub follows-five : (k place : ℕ) → k ≡ 4 → FiveRefused k place bytes → layout_of bytes ≡ faulty 4 place
   follows-five k place q h = ⊎_elim (λ e. e ∙ ap (λ (j : ℕ). faulty j place) q) (λ r. absurd (omega (arith, r.2.from_on))) (told_refused bytes k place h)
 
   pub sixth-counted : (at : ℕ) → layout_of bytes ≡ faulty 4 at → at < length bytes
   sixth-counted at h = (five bytes at h).counted
 
-  pub refused_sixth : (at k place : ℕ) → layout_of bytes ≡ faulty 4 at → ((n : ℕ) → layout (between_section n ∷ []) at (drop at bytes) ≡ faulty k place) → SixCheckedAs (checked.Refused k place) bytes
+  pub refused_sixth : (at k place : ℕ) → layout_of bytes ≡ faulty 4 at → ((n : ℕ) → layout (between_section n ∷ []) at (drop at bytes) ≡ faulty k place) → SixRefused k place bytes
   refused_sixth at k place h e = six_refused bytes k place (sixth_refused bytes at (five bytes at h) k place (e (first_byte bytes)))
-
--- 6 and 7 are the numbers from 6 on that the sixth can meet
-module _ (n at count : ℕ) (bytes : List ℕ) (six : sixth_fault 6 n at count bytes ≡ none) where
-  pub none_six : (j : ℕ) → 6 ≤ j → j < 7 → sixth_fault j n at count bytes ≡ none
-  none_six j a b = subst (λ (x : ℕ). sixth_fault x n at count bytes ≡ none) (omega arith) six
-
-  pub none_seven : sixth_fault 7 n at count bytes ≡ none → (j : ℕ) → 6 ≤ j → j ≤ 7 → sixth_fault j n at count bytes ≡ none
-  none_seven seven j a b = ⊎_elim (λ q. subst (λ (x : ℕ). sixth_fault x n at count bytes ≡ none) (sym q) seven) (none_six j a) (nat_cases j 7 b)

@@ -3,11 +3,12 @@
 
 ghost use Rattle.std.specs.Prelude.{◌≡◌, [], ◌∷◌, ◌+◌, ◌*◌, ◌≤◌, ◌<◌, length, drop};
 ghost use Rattle.logic.specs.Query.{sign_role, term_role, role_fault, faulty, layout_of};
-ghost use Rattle.byte_tests.specs.Meets.{meets};
-ghost use Rattle.between_checks.specs.Answers.{fault_of, sixth_fault, SixthBelow, SixthRead, Sixth, SixCheckedAs};
+ghost use Rattle.refusals.specs.Numbers.{number_of};
+ghost use Rattle.entries.specs.Entries.{found_of};
+ghost use Rattle.between_checks.specs.Answers.{sixth_fault, SixthBelow, SixthRead, Sixth, SixCheckedAs};
 
 use query::Layout;
-use query_checks::Checked;
+use refusals::{Fault, Refusal};
 
 // Where six sections stand: the first five, which end at `at`, and how many between literals follow the count that stands there.
 #[derive(Drop)]
@@ -17,179 +18,116 @@ pub struct SixLayout {
     pub count: usize,
 }
 
-// A query that is refused, with the refusal's number and place, or one that is accepted.
-#[derive(Drop)]
-pub enum SixChecked {
-    Refused(usize, usize),
-    Accepted(SixLayout),
-}
-
-// What is met at the sixth section: a refusal with its place, or how many literals it has.
-#[derive(Drop)]
-enum Read {
-    Refused(usize, usize),
-    Section(usize),
-}
-
-// A place that was looked for.
-#[derive(Drop)]
-enum Fault {
-    At(usize),
-    Nothing,
-}
-
-// A refusal that the sixth section meets, or none.
-#[derive(Drop)]
-enum Met {
-    Refused(usize, usize),
-    Nothing,
-}
-
-// "A sign is neither 0 nor 1."
-fn sign_refused(k: usize, byte: usize) -> bool
-    ensures { result ≡ meets sign_role k byte }
-{
-    (6 == k) & !(byte < 2)
-}
-
-// "7 in the sixth too": a term number is 0 or above the term count.
-fn term_refused(k: usize, n: usize, byte: usize) -> bool
-    ensures { result ≡ meets (term_role n) k byte }
-{
-    (7 == k) & !((0 < byte) & (byte <= n))
-}
-
-// The lowest byte of a between literal that meets refusal k.
-fn triple_fault(k: usize, n: usize, query: &[u8], at: usize) -> Fault
+// The lowest byte of a between literal that meets a refusal: "7 in the sixth too".
+fn triple_fault(fault: Fault, n: usize, query: &[u8], at: usize) -> Option<usize>
     requires { at + 4 ≤ length query.now }
-    ensures { fault_of result ≡ role_fault k at (sign_role ∷ term_role n ∷ term_role n ∷ term_role n ∷ []) (drop at query.now) }
+    ensures { found_of result ≡ role_fault (number_of fault) at (sign_role ∷ term_role n ∷ term_role n ∷ term_role n ∷ []) (drop at query.now) }
 {
-    let from = at + 1;
-    let middle = from + 1;
-    let to = middle + 1;
-    if sign_refused(k, entries::byte_at(query, at)) {
-        return Fault::At(at);
+    if byte_tests::sign_refused(fault, entries::byte_at(query, at)) {
+        return Some(at);
     }
-    if term_refused(k, n, entries::byte_at(query, from)) {
-        return Fault::At(from);
+    for place in at + 1..at + 4 {
+        if byte_tests::number_refused(fault, Fault::TermNumber, n, entries::byte_at(query, place)) {
+            return Some(place);
+        }
     }
-    if term_refused(k, n, entries::byte_at(query, middle)) {
-        return Fault::At(middle);
-    }
-    if term_refused(k, n, entries::byte_at(query, to)) {
-        return Fault::At(to);
-    }
-    Fault::Nothing
+    None
 }
 
-// The lowest byte that meets refusal k, among `count` between literals at `at`.
-fn sixth_fault(k: usize, n: usize, query: &[u8], at: usize, count: usize) -> Fault
+// The lowest byte that meets a refusal, among `count` between literals at `at`.
+fn sixth_fault(fault: Fault, n: usize, query: &[u8], at: usize, count: usize) -> Option<usize>
     requires { at + count * 4 ≤ length query.now }
-    ensures { fault_of result ≡ sixth_fault k n at count query.now }
+    ensures { found_of result ≡ sixth_fault (number_of fault) n at count query.now }
 {
     let mut place = at;
-    let mut i: usize = 0;
-    while i < count {
-        match triple_fault(k, n, query, place) {
-            Fault::At(p) => return Fault::At(p),
-            Fault::Nothing => {}
+    for _ in 0..count {
+        if let Some(found) = triple_fault(fault, n, query, place) {
+            return Some(found);
         }
         place += 4;
-        i += 1;
     }
-    Fault::Nothing
+    None
 }
 
-// The refusals below `limit` that the sixth section meets: 6, then 7.
-fn sixth_below(n: usize, query: &[u8], at: usize, count: usize, limit: usize) -> Met
+// The refusals numbered below `limit` that the sixth section meets: 6, then 7.
+fn sixth_below(n: usize, query: &[u8], at: usize, count: usize, limit: usize) -> Result<(), Refusal>
     requires { at + count * 4 ≤ length query.now }
     ensures { SixthBelow result n at count query.now limit }
 {
     if limit < 7 {
-        return Met::Nothing;
+        return Ok(());
     }
-    match sixth_fault(6, n, query, at, count) {
-        Fault::At(p) => return Met::Refused(6, p),
-        Fault::Nothing => {}
+    if let Some(place) = sixth_fault(Fault::Sign, n, query, at, count) {
+        return Err(Fault::Sign.at(place));
     }
     if limit < 8 {
-        return Met::Nothing;
+        return Ok(());
     }
-    match sixth_fault(7, n, query, at, count) {
-        Fault::At(p) => return Met::Refused(7, p),
-        Fault::Nothing => {}
+    if let Some(place) = sixth_fault(Fault::TermNumber, n, query, at, count) {
+        return Err(Fault::TermNumber.at(place));
     }
-    Met::Nothing
+    Ok(())
 }
 
-// The sixth section, whose count stands at `at`: refusals 2 to 4.
-fn read_sixth(query: &[u8], at: usize) -> Read
+// How many literals the sixth section has, whose count stands at `at`: refusals 2 to 4.
+fn read_sixth(query: &[u8], at: usize) -> Result<usize, Refusal>
     requires { at < length query.now }
     ensures { SixthRead result query.now at }
 {
     let len = query.len();
     let count = query[at] as usize;
     if 60 < count {
-        return Read::Refused(3, at);
+        return Err(Fault::CountAboveLimit.at(at));
     }
     let size = count * 4;
     let left = len - at - 1;
     if left < size {
-        return Read::Refused(2, len);
+        return Err(Fault::QueryEnds.at(len));
     }
     let end = at + 1 + size;
     if end < len {
-        return Read::Refused(4, end);
+        return Err(Fault::TrailingBytes.at(end));
     }
-    Read::Section(count)
+    Ok(count)
 }
 
 // "The whole query is searched for one fault before the next": refusals 5 to 8 of six sections that are laid out.
-fn check_bytes(query: &[u8], at: usize, count: usize) -> SixChecked
+fn check_bytes(query: &[u8], at: usize, count: usize) -> Result<SixLayout, Refusal>
     requires { Sixth query.now at count }
     ensures { SixCheckedAs result query.now }
 {
     let n = entries::byte_at(query, 0);
     match query_checks::check(&query[..at]) {
-        Checked::Refused(k, place) => match sixth_below(n, query, at + 1, count, k) {
-            Met::Refused(j, p) => SixChecked::Refused(j, p),
-            Met::Nothing => SixChecked::Refused(k, place),
-        },
-        Checked::Accepted(base) => match sixth_below(n, query, at + 1, count, 9) {
-            Met::Refused(j, p) => SixChecked::Refused(j, p),
-            Met::Nothing => SixChecked::Accepted(SixLayout { base, at, count }),
-        },
+        Err(refusal) => {
+            sixth_below(n, query, at + 1, count, refusal.fault.number())?;
+            Err(refusal)
+        }
+        Ok(base) => {
+            sixth_below(n, query, at + 1, count, 9)?;
+            Ok(SixLayout { base, at, count })
+        }
     }
 }
 
 // Six sections, of which the first five end at `at`.
-fn check_sixth(query: &[u8], at: usize) -> SixChecked
+fn check_sixth(query: &[u8], at: usize) -> Result<SixLayout, Refusal>
     requires { layout_of query.now ≡ faulty 4 at }
     ensures { SixCheckedAs result query.now }
 {
-    match read_sixth(query, at) {
-        Read::Refused(k, place) => SixChecked::Refused(k, place),
-        Read::Section(count) => check_bytes(query, at, count),
-    }
+    let count = read_sixth(query, at)?;
+    check_bytes(query, at, count)
 }
 
 // Refusals 2 to 8 and 26. Bytes that follow five sections are the sixth; where none do, the query ends before the sixth's count.
-pub fn check(query: &[u8]) -> SixChecked
+pub fn check(query: &[u8]) -> Result<SixLayout, Refusal>
     ensures { SixCheckedAs result query.now }
 {
     match query_checks::check(query) {
-        Checked::Accepted(_) => SixChecked::Refused(2, query.len()),
-        Checked::Refused(k, place) => {
-            if k < 4 {
-                return SixChecked::Refused(k, place);
-            }
-            if k == 26 {
-                return SixChecked::Refused(k, place);
-            }
-            if 4 < k {
-                return SixChecked::Refused(2, query.len());
-            }
-            check_sixth(query, place)
-        }
+        Ok(_) => Err(Fault::QueryEnds.at(query.len())),
+        Err(refusal) => match refusal.fault {
+            Fault::QueryEnds | Fault::CountAboveLimit | Fault::BooleanCount => Err(refusal),
+            Fault::TrailingBytes => check_sixth(query, refusal.place),
+            _ => Err(Fault::QueryEnds.at(query.len())),
+        },
     }
 }

@@ -3,7 +3,7 @@ use Prim.Native.Nat.{ℕ}
 use native.Mathlib.Omega.{arith}
 use mathlib.Core.Path.{◌≡◌, sym, ap, ◌∙◌}
 use mathlib.Core.List.{List, ◌++◌}
-use lib.ListN.{length, take}
+use lib.ListN.{length}
 use lib.Seq.{take_all, take_at}
 use Rattle.between_printing.specs.BetweenverdictText.{text_of, betweenverdict_text}
 use Rattle.between_printing.specs.Reading.{ReadsAtMost}

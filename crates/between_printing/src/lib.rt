@@ -13,12 +13,12 @@ fn put_answer(buffer: &mut [u8], query: &[u8]) -> usize
 {
     let mut report = [0u8; 53];
     match between_call::between(query, &mut report) {
-        BetweenAnswer::Heap => {
+        Ok(BetweenAnswer::Heap) => {
             let to = text::put_bytes(buffer, 0, b"sat\n");
             wording::put_report(buffer, to, &report, 1)
         }
-        BetweenAnswer::Nothing => text::put_bytes(buffer, 0, b"unsat\n"),
-        BetweenAnswer::Refused(k, place) => wording::put_refusal(buffer, 0, k, place),
+        Ok(BetweenAnswer::Nothing) => text::put_bytes(buffer, 0, b"unsat\n"),
+        Err(e) => wording::put_refusal(buffer, 0, e.fault.number(), e.place),
     }
 }
 

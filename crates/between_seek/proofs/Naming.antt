@@ -1,20 +1,18 @@
 -- The nodes of the terms from t on, tried one after another.
 use Prim.Native.Nat.{ℕ, ◌+◌, ◌-◌, ◌≤◌, ◌<◌}
 use native.Mathlib.Omega.{arith}
-use mathlib.Core.Path.{◌≡◌, refl, sym, ap, ◌∙◌, subst}
+use mathlib.Core.Path.{◌≡◌, sym, ap, ◌∙◌, subst}
 use mathlib.Core.Bool.{Bool, true, false}
 use mathlib.Core.List.{List}
 use mathlib.Core.Option.{Option, none, some}
-use lib.ListN.{length, set, take}
+use lib.ListN.{set, take}
 use Rattle.logic.specs.Search.{from, first_of}
-use Rattle.theory.proofs.Basics.Search.{keep-true, keep-false}
 use Rattle.between.specs.Meaning.{BetweenQuery}
 use Rattle.between_search.specs.Tests.{breaks}
 use Rattle.between_search.specs.Search.{Found, entry, lowest_node, highest_node, seek_nodes}
 use Rattle.between_tests.proofs.Laws.{small_set}
-use Rattle.between_seek.specs.declared.Searched.{Searched}
 use Rattle.between_seek.specs.declared.Linked.{Linked}
-use Rattle.between_seek.specs.Answers.{query_in, found_of, Sized, Tested, Placed}
+use Rattle.between_seek.specs.Answers.{query_in, Sized, Tested, Placed}
 use Rattle.between_seek.proofs.Laws.{node_tried, nodes_step, step_breaks, step_fits, nodes_all, chosen_next, chosen_size}
 
 -- what is found from term t on, and what with v as its node
@@ -23,14 +21,6 @@ found_from query h nodes t = seek_nodes query h.q.sorted h.q.m (take (h.q.m + 1)
 
 unfoldable pub found_with : BetweenQuery → Linked → List ℕ → ℕ → ℕ → Option Found
 found_with query h nodes t v = node_tried query h.q.sorted h.q.m (take (h.q.m + 1) h.links) (h.q.l.terms + 1 - t - 1) t (take t nodes) v
-
--- an answer
-module _ (links nodes : List ℕ) (r : Searched) where
-  pub is_found : r ≡ record { found = true; links = links; nodes = nodes } → found_of r ≡ some (record { links = links; nodes = nodes })
-  is_found e = ap (λ (x : Searched). found_of x) e ∙ keep-true _ refl
-
-  pub is_none : r ≡ record { found = false; links = links; nodes = nodes } → found_of r ≡ none
-  is_none e = ap (λ (x : Searched). found_of x) e ∙ keep-false _ refl
 
 module _ (base between : List ℕ) (apart : List Bool) (h : Linked) (nodes : List ℕ) (t : ℕ) (sized : Sized base between apart h.q) (placed : Placed h nodes t) where
   abbrev query : BetweenQuery

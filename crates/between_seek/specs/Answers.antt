@@ -1,7 +1,6 @@
 -- The code's answers in the words of the definitions.
-use Rattle.std.specs.Prelude.{ℕ, ◌+◌, ◌*◌, ◌≤◌, ◌<◌, ◌≡◌, Bool, List, length, take}
-use Rattle.std.proofs.Math.Option.{Option}
-use Rattle.logic.specs.Search.{keep}
+use Rattle.std.specs.Prelude.{ℕ, ◌+◌, ◌*◌, ◌≤◌, ◌<◌, ◌≡◌, Bool, List, Option, Some, None, length, take}
+use Rattle.std.proofs.Math.Option as logic
 use Rattle.logic.specs.Query.{decode, argument_of}
 use Rattle.logic.specs.Calls.{padded}
 use Rattle.query.specs.declared.Layout.{Layout}
@@ -10,7 +9,7 @@ use Rattle.between.specs.Meaning.{BetweenQuery}
 use Rattle.between_search.specs.Bytes.{triples}
 use Rattle.between_search.specs.Search.{Found, entry}
 use Rattle.between_tests.specs.Tables.{Small, Stepped, Opposed, literals_in}
-use Rattle.between_seek.specs.declared.Searched.{Searched}
+use Rattle.between_seek.specs.declared.Heap.{Heap}
 use Rattle.between_seek.specs.declared.Sought.{Sought}
 use Rattle.between_seek.specs.declared.Linked.{Linked}
 
@@ -18,8 +17,9 @@ use Rattle.between_seek.specs.declared.Linked.{Linked}
 abbrev pub query_in : List ℕ → List ℕ → BetweenQuery
 query_in base between = record { base = decode base; betweens = triples between }
 
-abbrev pub found_of : Searched → Option Found
-found_of r = keep r.found (record { links = r.links; nodes = r.nodes })
+abbrev pub found_of : Option Heap → logic.Option Found
+found_of (Some h) = logic.some (record { links = h.links; nodes = h.nodes })
+found_of None = logic.none
 
 -- a list that is chosen up to a place: zeros follow
 abbrev pub Chosen : List ℕ → ℕ → Type 0

@@ -7,14 +7,14 @@ ghost use Rattle.between_search.specs.Search.{entry, lowest_node, highest_node, 
 ghost use Rattle.between_tests.specs.Tables.{Small};
 ghost use Rattle.between_seek.specs.Answers.{query_in, found_of, Chosen, Entered, Given, Sized, Tested, Placed};
 
+use between_tests::Pairs;
 use heap_nodes::Node;
 use query::Layout;
 use rows::Term;
 
-// A heap that was looked for: its node count and links, and the term count and the nodes of the terms.
-#[derive(Drop)]
-pub struct Searched {
-    pub found: bool,
+// A heap that was found: its node count and links, and the term count and the nodes of the terms.
+#[derive(Clone, Copy)]
+pub struct Heap {
     pub links: [u8; 17],
     pub nodes: [u8; 17],
 }
@@ -62,10 +62,20 @@ fn breaks(
     if between_tests::field_breaks(apart, nodes, t) {
         return true;
     }
-    if between_tests::pairs_break(base, l.equal_at, l.equal_count, 0, &h.steps, nodes, t) {
+    let equal = Pairs {
+        at: l.equal_at,
+        count: l.equal_count,
+        most: 0,
+    };
+    if between_tests::pairs_break(base, equal, &h.steps, nodes, t) {
         return true;
     }
-    if between_tests::pairs_break(base, l.reach_at, l.reach_count, 5, &h.steps, nodes, t) {
+    let reach = Pairs {
+        at: l.reach_at,
+        count: l.reach_count,
+        most: 5,
+    };
+    if between_tests::pairs_break(base, reach, &h.steps, nodes, t) {
         return true;
     }
     between_tests::triples_break(between, q.count, &h.steps, nodes, t)
@@ -103,25 +113,14 @@ fn highest(base: &[u8], h: Linked, nodes: &[u8; 17], t: Term) -> Node
     Node(q.m)
 }
 
-// Term t names node v.
-fn put_node(nodes: &mut [u8; 17], t: Term, v: Node)
-    requires { (t.0 ≤ 16) × (v.0 ≤ 5) }
-    ensures { nodes.new ≡ set nodes.old t.0 v.0 }
+// The list with node v at a place: the node of a term, or the one that a link leads to.
+fn with_node(list: [u8; 17], at: usize, v: Node) -> [u8; 17]
+    requires { (at ≤ 16) × (v.0 ≤ 5) }
+    ensures { result ≡ set list at v.0 }
 {
-    let at = t.0;
-    nodes[at] = v.0 as u8;
-}
-
-// Whether a heap is found, and its links and nodes.
-fn answered(found: bool, h: Linked, nodes: [u8; 17]) -> Searched
-    ensures { result ≡ record { found = found; links = h.links; nodes = nodes } }
-{
-    let links = h.links;
-    Searched {
-        found,
-        links,
-        nodes,
-    }
+    let mut changed = list;
+    changed[at] = v.0 as u8;
+    changed
 }
 
 // The nodes of the terms from t on: the first choice that passes every test. A choice that fails is left at once.
@@ -132,31 +131,27 @@ fn seek_nodes(
     h: Linked,
     nodes: [u8; 17],
     t: Term,
-) -> Searched
+) -> Option<Heap>
     requires { Sized base.now between.now apart.now h.q × Tested h nodes × Placed h nodes t.0 }
     ensures { found_of result ≡ seek_nodes (query_in base.now between.now) h.q.sorted h.q.m (take (h.q.m + 1) h.links) (h.q.l.terms + 1 - t.0) t.0 (take t.0 nodes) }
 {
     let q = h.q;
     if q.l.terms < t.0 {
-        return answered(true, h, nodes);
+        let links = h.links;
+        return Some(Heap { links, nodes });
     }
     let first = lowest(base, h, &nodes, t);
     let last = highest(base, h, &nodes, t);
-    let end = last.0 + 1;
-    let mut v = first.0;
-    while v < end {
-        let mut tried = nodes;
-        put_node(&mut tried, t, Node(v));
-        v += 1;
+    for v in first.0..last.0 + 1 {
+        let tried = with_node(nodes, t.0, Node(v));
         if breaks(base, between, apart, h, &tried, t) {
             continue;
         }
-        let r = seek_nodes(base, between, apart, h, tried, Term(t.0 + 1));
-        if r.found {
-            return r;
+        if let Some(heap) = seek_nodes(base, between, apart, h, tried, Term(t.0 + 1)) {
+            return Some(heap);
         }
     }
-    answered(false, h, nodes)
+    None
 }
 
 // The nodes for a list of links.
@@ -166,7 +161,7 @@ fn nodes_found(
     apart: &[bool; 36],
     q: Sought,
     links: [u8; 17],
-) -> Searched
+) -> Option<Heap>
     requires { Sized base.now between.now apart.now q × Small links × Chosen links (q.m + 1) }
     ensures { found_of result ≡ nodes_found (query_in base.now between.now) q.sorted q.m (take (q.m + 1) links) }
 {
@@ -177,17 +172,6 @@ fn nodes_found(
     seek_nodes(base, between, apart, h, nodes, Term(1))
 }
 
-// The links in which that of node j leads to node v.
-fn with_link(links: [u8; 17], j: Node, v: Node) -> [u8; 17]
-    requires { (j.0 ≤ 16) × (v.0 ≤ 5) }
-    ensures { result ≡ set links j.0 v.0 }
-{
-    let mut chosen = links;
-    let at = j.0;
-    chosen[at] = v.0 as u8;
-    chosen
-}
-
 // The links of the nodes from j on, and the nodes of the terms.
 fn seek_links(
     base: &[u8],
@@ -196,33 +180,24 @@ fn seek_links(
     q: Sought,
     links: [u8; 17],
     j: Node,
-) -> Searched
+) -> Option<Heap>
     requires { Sized base.now between.now apart.now q × Small links × (1 ≤ j.0) × (j.0 ≤ q.m + 1) × Chosen links j.0 }
     ensures { found_of result ≡ seek_links (query_in base.now between.now) q.sorted q.m (q.m + 1 - j.0) j.0 (take j.0 links) }
 {
     if q.m < j.0 {
-        let r = nodes_found(base, between, apart, q, links);
-        return r;
+        return nodes_found(base, between, apart, q, links);
     }
-    let end = q.m + 1;
-    let mut v: usize = 1;
-    while v < end {
-        let chosen = with_link(links, j, Node(v));
-        v += 1;
-        let r = seek_links(base, between, apart, q, chosen, Node(j.0 + 1));
-        if r.found {
-            return r;
+    for v in 1..q.m + 1 {
+        let chosen = with_node(links, j.0, Node(v));
+        if let Some(heap) = seek_links(base, between, apart, q, chosen, Node(j.0 + 1)) {
+            return Some(heap);
         }
     }
-    Searched {
-        found: false,
-        links,
-        nodes: links,
-    }
+    None
 }
 
 // The first heap of m nodes.
-fn links_found(base: &[u8], between: &[u8], apart: &[bool; 36], q: Sought) -> Searched
+fn links_found(base: &[u8], between: &[u8], apart: &[bool; 36], q: Sought) -> Option<Heap>
     requires { Sized base.now between.now apart.now q }
     ensures { found_of result ≡ links_found (query_in base.now between.now) q.sorted q.m }
 {
@@ -238,7 +213,7 @@ fn size_found(
     count: usize,
     apart: &[bool; 36],
     m: usize,
-) -> Searched
+) -> Option<Heap>
     requires { Given base.now l between.now count apart.now × (m ≤ 5) }
     ensures { found_of result ≡ size_found (query_in base.now between.now) m }
 {
@@ -248,10 +223,7 @@ fn size_found(
         m,
         sorted: true,
     };
-    let some = links_found(base, between, apart, named);
-    if !some.found {
-        return some;
-    }
+    links_found(base, between, apart, named)?;
     let any = Sought {
         l,
         count,
@@ -278,23 +250,14 @@ pub fn heap_found(
     between: &[u8],
     count: usize,
     apart: &[bool; 36],
-) -> Searched
+) -> Option<Heap>
     requires { Given base.now l between.now count apart.now }
     ensures { found_of result ≡ heap_found (query_in base.now between.now) }
 {
-    let end = most_nodes(l.terms) + 1;
-    let mut m: usize = 1;
-    while m < end {
-        let r = size_found(base, l, between, count, apart, m);
-        if r.found {
-            return r;
+    for m in 1..most_nodes(l.terms) + 1 {
+        if let Some(heap) = size_found(base, l, between, count, apart, m) {
+            return Some(heap);
         }
-        m += 1;
     }
-    let empty = [0u8; 17];
-    Searched {
-        found: false,
-        links: empty,
-        nodes: empty,
-    }
+    None
 }

@@ -6,7 +6,7 @@ use native.Mathlib.Nat.{zero-add}
 use native.Mathlib.Decide.{ℕ_discrete}
 use mathlib.Core.Path.{◌≡◌, refl, sym, ap, ap₂, ◌∙◌, subst}
 use mathlib.Core.Logic.{⊎_elim}
-use mathlib.Core.Bool.{Bool, true, false, not, cond, ◌&&◌, ◌||◌}
+use mathlib.Core.Bool.{Bool, true, false, not, cond, beq, ◌&&◌, ◌||◌}
 use mathlib.Core.List.{List}
 use lib.ListN.{length, get_or, set}
 use lib.Seq.{get_or-set_same, get_or-set_other, set_out}
@@ -30,6 +30,14 @@ use Rattle.between_tests.specs.Tables.{Small, MadeTo, literals_in}
 pub node-read : (nodes : List ℕ) (t r : ℕ) → (r ≡ node_of nodes t) × (r < 256) → r ≡ entry nodes t
 unfolding node_of entry
 node-read nodes t r h = h.0
+
+-- a sign and what is held, as the code compares them
+pub agrees_beq : (sign held : Bool) → beq sign held ≡ agrees sign held
+unfolding agrees
+agrees_beq true true = refl
+agrees_beq true false = refl
+agrees_beq false true = refl
+agrees_beq false false = refl
 
 -- Step counts
 
@@ -72,14 +80,13 @@ pub column_of : (v w : ℕ) → w ≤ 5 → (6 * v + w) % 6 ≡ w
 column_of v w h = omega arith
 
 module _ {A : Type 0} (g : ℕ → ℕ → A) (d : A) where
-  pub made_next : (table : List A) (v w : ℕ) (a : A) → length table ≡ 36 → v ≤ 5 → w ≤ 5 → a ≡ g v w → MadeTo g d table (6 * v + w) → MadeTo g d (set table (6 * v + w) a) (6 * v + (w + 1))
-  made_next table v w a l x y e m j h = elim (ℕ_discrete j (6 * v + w)) [
-    | yes q ↦ ap (λ (x : ℕ). get_or (set table (6 * v + w) a) x d) q ∙ get_or-set_same table (6 * v + w) a d (omega arith) ∙ e
-        ∙ ap₂ (λ (x y : ℕ). g x y) (sym (row_of v w y)) (sym (column_of v w y)) ∙ ap (λ (x : ℕ). g (x / 6) (x % 6)) (sym q)
-    | no n ↦ get_or-set_other table (6 * v + w) j a d n ∙ m j (omega arith)
+  pub made_next : (table : List A) (i : ℕ) (a : A) → length table ≡ 36 → i < 36 → a ≡ g (i / 6) (i % 6) → MadeTo g d table i → MadeTo g d (set table i a) (i + 1)
+  made_next table i a l x e m j h = elim (ℕ_discrete j i) [
+    | yes q ↦ ap (λ (x : ℕ). get_or (set table i a) x d) q ∙ get_or-set_same table i a d (omega arith) ∙ e ∙ ap (λ (x : ℕ). g (x / 6) (x % 6)) (sym q)
+    | no n ↦ get_or-set_other table i j a d n ∙ m j (omega arith)
   ]
 
-  pub made_all : (table : List A) (i : ℕ) → 6 ≤ i → MadeTo g d table (6 * i) → (v w : ℕ) → v ≤ 5 → w ≤ 5 → get_or table (6 * v + w) d ≡ g v w
+  pub made_all : (table : List A) (i : ℕ) → 36 ≤ i → MadeTo g d table i → (v w : ℕ) → v ≤ 5 → w ≤ 5 → get_or table (6 * v + w) d ≡ g v w
   made_all table i l m v w a b = m (6 * v + w) (omega arith) ∙ ap₂ (λ (x y : ℕ). g x y) (row_of v w b) (column_of v w b)
 
 -- Literals that are due

@@ -20,7 +20,7 @@ pub fn link_of(links: &[u8; 17], v: Node) -> Node
     ensures { result.0 ≡ entry links.now v.0 }
 {
     let at = v.0;
-    Node(rows::wide(links[at]))
+    Node(usize::from(links[at]))
 }
 
 // The least step count from v to w, or 6 where w is not met.
@@ -29,40 +29,23 @@ fn step_count(links: &[u8; 17], v: Node, w: Node) -> usize
     ensures { (result ≡ steps (entry links.now) v.0 w.0) × (result ≤ 6) }
 {
     let mut at = v;
-    let mut k: usize = 0;
-    while k < 6 {
+    for k in 0..6 {
         if at.0 == w.0 {
             return k;
         }
         at = link_of(links, at);
-        k += 1;
     }
     6
 }
 
-// The counts from v into the table: to w it is at 6 * v + w.
-fn put_steps(table: &mut [u8; 36], links: &[u8; 17], v: Node)
-    requires { Small links.now × (v.0 ≤ 5) × (length table.old ≡ 36) }
-    ensures { (length table.new ≡ 36) × (MadeTo (steps (entry links.now)) 0 table.old (6 * v.0) → MadeTo (steps (entry links.now)) 0 table.new (6 * v.0 + 6)) }
-{
-    let row = 6 * v.0;
-    let mut w: usize = 0;
-    while w < 6 {
-        table[row + w] = step_count(links, v, Node(w)) as u8;
-        w += 1;
-    }
-}
-
-// All of these.
+// All of these: from v to w it is at 6 * v + w.
 pub fn step_table(links: &[u8; 17]) -> [u8; 36]
     requires { Small links.now }
     ensures { Stepped result (entry links.now) }
 {
     let mut table = [0u8; 36];
-    let mut v: usize = 0;
-    while v < 6 {
-        put_steps(&mut table, links, Node(v));
-        v += 1;
+    for i in 0..36 {
+        table[i] = step_count(links, Node(i / 6), Node(i % 6)) as u8;
     }
     table
 }
@@ -71,15 +54,14 @@ fn step_of(table: &[u8; 36], v: Node, w: Node) -> u8
     requires { (v.0 ≤ 5) × (w.0 ≤ 5) }
     ensures { result ≡ get_or table.now (6 * v.0 + w.0) 0 }
 {
-    let at = 6 * v.0 + w.0;
-    table[at]
+    table[6 * v.0 + w.0]
 }
 
 // What is held is what the sign asks for.
 fn agrees(sign: bool, held: bool) -> bool
     ensures { result ≡ agrees sign held }
 {
-    (sign & held) | (!sign & !held)
+    sign == held
 }
 
 // t is the last of a literal's terms.
@@ -95,21 +77,29 @@ fn due_triple(x: Term, y: Term, z: Term, t: Term) -> bool
     (((x.0 <= t.0) & (y.0 <= t.0)) & (z.0 <= t.0)) & (((x.0 == t.0) | (y.0 == t.0)) | (z.0 == t.0))
 }
 
-// Literal i of the equalities (`most` is 0) or of the reachability literals (5) is due at t and fails.
+// A section of literals on two terms, each of which holds where the second is met after at most so many steps: 0 for equalities, 5 for
+// reachability literals.
+#[derive(Clone, Copy)]
+pub struct Pairs {
+    pub at: usize,
+    pub count: usize,
+    pub most: u8,
+}
+
+// Literal i of the section is due at t and fails.
 fn pair_breaks(
     query: &[u8],
-    at: usize,
+    pairs: Pairs,
     i: usize,
-    most: u8,
     table: &[u8; 36],
     nodes: &[u8; 17],
     t: Term,
 ) -> bool
-    requires { (at + 3 * i + 3 ≤ length query.now) × Small nodes.now × (t.0 ≤ 5) }
-    ensures { (link : ℕ → ℕ) → Stepped table.now link → result ≡ pair_breaks link (entry nodes.now) most t.0 (literal_in query.now at i) }
+    requires { (pairs.at + 3 * i + 3 ≤ length query.now) × Small nodes.now × (t.0 ≤ 5) }
+    ensures { (link : ℕ → ℕ) → Stepped table.now link → result ≡ pair_breaks link (entry nodes.now) pairs.most t.0 (literal_in query.now pairs.at i) }
 {
-    let a = query::left(query, at, i);
-    let b = query::right(query, at, i);
+    let a = query::left(query, pairs.at, i);
+    let b = query::right(query, pairs.at, i);
     if !due_pair(a, b, t) {
         return false;
     }
@@ -118,29 +108,18 @@ fn pair_breaks(
         heap_nodes::node_of(nodes, a),
         heap_nodes::node_of(nodes, b),
     );
-    let held = count <= most;
-    !agrees(query::sign(query, at, i), held)
+    !agrees(query::sign(query, pairs.at, i), count <= pairs.most)
 }
 
-// One of `count` literals does.
-pub fn pairs_break(
-    query: &[u8],
-    at: usize,
-    count: usize,
-    most: u8,
-    table: &[u8; 36],
-    nodes: &[u8; 17],
-    t: Term,
-) -> bool
-    requires { (at + 3 * count ≤ length query.now) × Small nodes.now × (t.0 ≤ 5) }
-    ensures { (link : ℕ → ℕ) → Stepped table.now link → result ≡ any (pair_breaks link (entry nodes.now) most t.0) (literals_in query.now at count) }
+// One of the section does.
+pub fn pairs_break(query: &[u8], pairs: Pairs, table: &[u8; 36], nodes: &[u8; 17], t: Term) -> bool
+    requires { (pairs.at + 3 * pairs.count ≤ length query.now) × Small nodes.now × (t.0 ≤ 5) }
+    ensures { (link : ℕ → ℕ) → Stepped table.now link → result ≡ any (pair_breaks link (entry nodes.now) pairs.most t.0) (literals_in query.now pairs.at pairs.count) }
 {
-    let mut i: usize = 0;
-    while i < count {
-        if pair_breaks(query, at, i, most, table, nodes, t) {
+    for i in 0..pairs.count {
+        if pair_breaks(query, pairs, i, table, nodes, t) {
             return true;
         }
-        i += 1;
     }
     false
 }
@@ -181,12 +160,10 @@ pub fn triples_break(
     requires { (4 * count ≡ length bytes.now) × Small nodes.now × (t.0 ≤ 5) }
     ensures { (link : ℕ → ℕ) → Stepped table.now link → result ≡ any (triple_breaks link (entry nodes.now) t.0) (triples bytes.now) }
 {
-    let mut i: usize = 0;
-    while i < count {
+    for i in 0..count {
         if triple_breaks(bytes, i, table, nodes, t) {
             return true;
         }
-        i += 1;
     }
     false
 }
@@ -218,15 +195,12 @@ fn other_nil(query: &[u8], l: Layout, nodes: &[u8; 17], t: Term) -> bool
     ensures { result ≡ any (λ u. names_nil (decode query.now).entries u && not (eqb (entry nodes.now u) (entry nodes.now t.0))) (from t.0 1) }
 {
     let v = heap_nodes::node_of(nodes, t);
-    let end = t.0 + 1;
-    let mut u: usize = 1;
-    while u < end {
+    for u in 1..t.0 + 1 {
         let nil = is_nil(query, l, Term(u));
         let w = heap_nodes::node_of(nodes, Term(u));
-        if nil & !(w.0 == v.0) {
+        if nil & (w.0 != v.0) {
             return true;
         }
-        u += 1;
     }
     false
 }
@@ -262,12 +236,10 @@ fn has_field(query: &[u8], at: usize, count: usize, sign: bool, j: usize, t: Ter
     requires { at + 3 * count ≤ length query.now }
     ensures { result ≡ has_field (literals_in query.now at count) sign j t.0 }
 {
-    let mut i: usize = 0;
-    while i < count {
+    for i in 0..count {
         if says_field(query, at, i, sign, j, t) {
             return true;
         }
-        i += 1;
     }
     false
 }
@@ -277,51 +249,26 @@ fn is_opposed(query: &[u8], at: usize, count: usize, a: Term, b: Term) -> bool
     requires { at + 3 * count ≤ length query.now }
     ensures { result ≡ opposed (literals_in query.now at count) a.0 b.0 }
 {
-    let mut j: usize = 1;
-    while j < 9 {
+    for j in 1..9 {
         let plain = has_field(query, at, count, true, j, a);
         let negated = has_field(query, at, count, false, j, b);
         if plain & negated {
             return true;
         }
-        j += 1;
     }
     false
 }
 
-// The tests of a into the table: against b it is at 6 * a + b.
-fn put_opposed(table: &mut [bool; 36], query: &[u8], at: usize, count: usize, a: Term)
-    requires { (at + 3 * count ≤ length query.now) × (a.0 ≤ 5) × (length table.old ≡ 36) }
-    ensures { (length table.new ≡ 36) × (MadeTo (opposed (literals_in query.now at count)) false table.old (6 * a.0) → MadeTo (opposed (literals_in query.now at count)) false table.new (6 * a.0 + 6)) }
-{
-    let row = 6 * a.0;
-    let mut b: usize = 0;
-    while b < 6 {
-        table[row + b] = is_opposed(query, at, count, a, Term(b));
-        b += 1;
-    }
-}
-
-// All of these.
+// All of these: a against b is at 6 * a + b.
 pub fn opposed_table(query: &[u8], at: usize, count: usize) -> [bool; 36]
     requires { at + 3 * count ≤ length query.now }
     ensures { Opposed result (literals_in query.now at count) }
 {
     let mut table = [false; 36];
-    let mut a: usize = 0;
-    while a < 6 {
-        put_opposed(&mut table, query, at, count, Term(a));
-        a += 1;
+    for i in 0..36 {
+        table[i] = is_opposed(query, at, count, Term(i / 6), Term(i % 6));
     }
     table
-}
-
-fn opposed_of(table: &[bool; 36], a: Term, b: Term) -> bool
-    requires { (a.0 ≤ 5) × (b.0 ≤ 5) }
-    ensures { result ≡ get_or table.now (6 * a.0 + b.0) false }
-{
-    let at = 6 * a.0 + b.0;
-    table[at]
 }
 
 // A field would be held plain and negated at the node of t.
@@ -330,16 +277,13 @@ pub fn field_breaks(table: &[bool; 36], nodes: &[u8; 17], t: Term) -> bool
     ensures { (fields : List Literal) → Opposed table.now fields → result ≡ field_breaks fields (entry nodes.now) t.0 }
 {
     let v = heap_nodes::node_of(nodes, t);
-    let end = t.0 + 1;
-    let mut u: usize = 1;
-    while u < end {
+    for u in 1..t.0 + 1 {
         let w = heap_nodes::node_of(nodes, Term(u));
-        let apart = opposed_of(table, Term(u), t);
-        let back = opposed_of(table, t, Term(u));
+        let apart = table[6 * u + t.0];
+        let back = table[6 * t.0 + u];
         if (w.0 == v.0) & (apart | back) {
             return true;
         }
-        u += 1;
     }
     false
 }
@@ -350,25 +294,13 @@ fn is_fresh(nodes: &[u8; 17], t: Term) -> bool
     ensures { result ≡ is_fresh (entry nodes.now) t.0 }
 {
     let v = heap_nodes::node_of(nodes, t);
-    let end = t.0;
-    let mut u: usize = 1;
-    while u < end {
+    for u in 1..t.0 {
         let w = heap_nodes::node_of(nodes, Term(u));
         if w.0 == v.0 {
             return false;
         }
-        u += 1;
     }
     true
-}
-
-fn one(b: bool) -> usize
-    ensures { (result ≡ cond b 1 0) × (result ≤ 1) }
-{
-    if b {
-        return 1;
-    }
-    0
 }
 
 // How many nodes the terms up to t name.
@@ -376,12 +308,11 @@ pub fn used(nodes: &[u8; 17], t: Term) -> usize
     requires { t.0 ≤ 16 }
     ensures { (result ≡ used (entry nodes.now) t.0) × (result ≤ 16) }
 {
-    let end = t.0;
     let mut count: usize = 0;
-    let mut u: usize = 0;
-    while u < end {
-        u += 1;
-        count += one(is_fresh(nodes, Term(u)));
+    for u in 0..t.0 {
+        if is_fresh(nodes, Term(u + 1)) {
+            count += 1;
+        }
     }
     count
 }

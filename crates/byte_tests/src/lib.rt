@@ -1,10 +1,13 @@
-// The tests of single bytes of a query: what the byte of a term, a sign, a number and a link are held to, and whether one meets refusal k.
+// The tests of single bytes of a query: what the byte of a term, a sign, a number and a link are held to, and whether one meets a refusal.
 #![tactic(auto)]
 
 ghost use Rattle.std.specs.Prelude.{◌≡◌};
 ghost use Rattle.logic.specs.Query.{entry_role, sign_role};
 ghost use Rattle.logic.specs.ThreeLinks.{is_link, may_precede};
+ghost use Rattle.refusals.specs.Numbers.{number_of};
 ghost use Rattle.byte_tests.specs.Meets.{counted, counted_role, meets};
+
+use refusals::Fault;
 
 // "A term byte is not below its own term's number." 255 names nil (02, R-3).
 pub fn entry_allowed(term: usize, byte: usize) -> bool
@@ -13,11 +16,11 @@ pub fn entry_allowed(term: usize, byte: usize) -> bool
     (byte < term) | (byte == 255)
 }
 
-pub fn entry_refused(k: usize, term: usize, byte: usize) -> bool
-    ensures { result ≡ meets (entry_role term) k byte }
+pub fn entry_refused(fault: Fault, term: usize, byte: usize) -> bool
+    ensures { result ≡ meets (entry_role term) (number_of fault) byte }
 {
     let allowed = entry_allowed(term, byte);
-    (5 == k) & !allowed
+    (fault == Fault::TermByte) & !allowed
 }
 
 // "A sign is neither 0 nor 1."
@@ -27,11 +30,11 @@ pub fn sign_allowed(byte: usize) -> bool
     byte < 2
 }
 
-pub fn sign_refused(k: usize, byte: usize) -> bool
-    ensures { result ≡ meets sign_role k byte }
+pub fn sign_refused(fault: Fault, byte: usize) -> bool
+    ensures { result ≡ meets sign_role (number_of fault) byte }
 {
     let allowed = sign_allowed(byte);
-    (6 == k) & !allowed
+    (fault == Fault::Sign) & !allowed
 }
 
 // A number is 1 to `most`, or meets its refusal, `own`.
@@ -41,11 +44,11 @@ pub fn number_allowed(most: usize, byte: usize) -> bool
     (0 < byte) & (byte <= most)
 }
 
-pub fn number_refused(k: usize, own: usize, most: usize, byte: usize) -> bool
-    ensures { result ≡ meets (counted_role own most) k byte }
+pub fn number_refused(fault: Fault, own: Fault, most: usize, byte: usize) -> bool
+    ensures { result ≡ meets (counted_role (number_of own) most) (number_of fault) byte }
 {
     let allowed = number_allowed(most, byte);
-    (own == k) & !allowed
+    (own == fault) & !allowed
 }
 
 // "a reachability link not 1 to 3"

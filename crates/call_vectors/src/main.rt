@@ -6,13 +6,11 @@
 ghost use Rattle.std.specs.Prelude.{◌≤◌, ◌<◌, length};
 
 use between_call::BetweenAnswer;
-use checker::CheckAnswer;
-use dot::DotAnswer;
 use formula_call::FormulaAnswer;
-use joiner::{HandBack, JoinAnswer};
+use joiner::{HandBack, JoinRefusal};
 use precedence::OrderAnswer;
 use prover::Answer;
-use rewriter::Rewritten;
+use refusals::Refusal;
 
 fn wide(x: u8) -> usize
     ensures { result < 256 }
@@ -29,14 +27,9 @@ fn print_number(rt: &impl Print, number: usize) {
 }
 
 // The bytes in hex.
-fn print_bytes(rt: &impl Print, bytes: &[u8], count: usize) {
-    let mut i: usize = 0;
-    while i < count {
-        if bytes.len() <= i {
-            return;
-        }
-        streams::print_hex(rt, bytes[i]);
-        i += 1;
+fn print_bytes(rt: &impl Print, bytes: &[u8]) {
+    for b in bytes {
+        streams::print_hex(rt, *b);
     }
 }
 
@@ -58,7 +51,7 @@ fn used(bytes: &[u8]) -> usize
 fn print_lent(rt: &impl Print, out: &[u8]) {
     print_word(rt, b" ");
     let n = used(out);
-    print_bytes(rt, out, n);
+    print_bytes(rt, &out[..n]);
     print_word(rt, b"+");
     print_number(rt, out.len() - n);
 }
@@ -70,10 +63,23 @@ fn print_refusal(rt: &impl Print, k: usize, place: usize) {
     print_number(rt, place);
 }
 
-// A refusal that is about one of two queries.
-fn print_refusal_of(rt: &impl Print, k: usize, place: usize, query: &[u8]) {
-    print_refusal(rt, k, place);
-    print_word(rt, query);
+fn print_fault(rt: &impl Print, refusal: Refusal) {
+    print_refusal(rt, refusal.fault.number(), refusal.place);
+}
+
+// A refusal of two queries, and which of them it is about.
+fn print_join_refusal(rt: &impl Print, refusal: JoinRefusal) {
+    match refusal {
+        JoinRefusal::First(e) => {
+            print_fault(rt, e);
+            print_word(rt, b" of the first query");
+        }
+        JoinRefusal::Second(e) => {
+            print_fault(rt, e);
+            print_word(rt, b" of the second query");
+        }
+        JoinRefusal::Neither(e) => print_fault(rt, e),
+    }
 }
 
 // What was written, and how long it is.
@@ -94,17 +100,17 @@ fn print_answer(rt: &impl Print, answer: Answer) {
 // R-2
 fn run_dot(rt: &impl Print, report: &[u8], out: &mut [u8]) {
     match dot::dot(report, out) {
-        DotAnswer::Written(length) => print_written(rt, b"text ", length),
-        DotAnswer::Refused(k, place) => print_refusal(rt, k, place),
+        Ok(length) => print_written(rt, b"text ", length),
+        Err(refusal) => print_fault(rt, refusal),
     }
 }
 
 // R-6
 fn run_order(rt: &impl Print, sheet: &[u8], out: &mut [u8]) {
     match precedence::order_of(sheet, out) {
-        OrderAnswer::Order => print_word(rt, b"order"),
-        OrderAnswer::Ring => print_word(rt, b"none"),
-        OrderAnswer::Refused(k, place) => print_refusal(rt, k, place),
+        Ok(OrderAnswer::Order) => print_word(rt, b"order"),
+        Ok(OrderAnswer::Ring) => print_word(rt, b"none"),
+        Err(refusal) => print_fault(rt, refusal),
     }
 }
 
@@ -118,40 +124,28 @@ fn run_formula(rt: &impl Print, order: &[u8], query: &[u8], formula: &[u8], out:
 }
 
 // R-8
-fn print_check(rt: &impl Print, answer: CheckAnswer) {
+fn print_check(rt: &impl Print, answer: Result<Option<usize>, Refusal>) {
     match answer {
-        CheckAnswer::Accepted => print_word(rt, b"accepted"),
-        CheckAnswer::Wrong(line) => print_written(rt, b"wrong ", line),
-        CheckAnswer::Refused(k, place) => print_refusal(rt, k, place),
+        Ok(None) => print_word(rt, b"accepted"),
+        Ok(Some(line)) => print_written(rt, b"wrong ", line),
+        Err(refusal) => print_fault(rt, refusal),
     }
 }
 
 // R-10
 fn run_between(rt: &impl Print, query: &[u8], out: &mut [u8]) {
     match between_call::between(query, out) {
-        BetweenAnswer::Heap => print_word(rt, b"heap"),
-        BetweenAnswer::Nothing => print_word(rt, b"none"),
-        BetweenAnswer::Refused(k, place) => print_refusal(rt, k, place),
+        Ok(BetweenAnswer::Heap) => print_word(rt, b"heap"),
+        Ok(BetweenAnswer::Nothing) => print_word(rt, b"none"),
+        Err(refusal) => print_fault(rt, refusal),
     }
 }
 
 // R-12
 fn run_join(rt: &impl Print, first: &[u8], second: &[u8], pairs: &[u8], out: &mut [u8]) {
     match joiner::join(first, second, pairs, out) {
-        JoinAnswer::Written(length) => print_written(rt, b"query ", length),
-        JoinAnswer::FirstRefused(k, place) => print_refusal_of(
-            rt,
-            k,
-            place,
-            b" of the first query",
-        ),
-        JoinAnswer::SecondRefused(k, place) => print_refusal_of(
-            rt,
-            k,
-            place,
-            b" of the second query",
-        ),
-        JoinAnswer::Refused(k, place) => print_refusal(rt, k, place),
+        Ok(length) => print_written(rt, b"query ", length),
+        Err(refusal) => print_join_refusal(rt, refusal),
     }
 }
 
@@ -168,24 +162,17 @@ fn print_place(rt: &impl Print, query: usize, at: usize, size: usize) {
 // "a call beside it gives number and place"
 fn print_hand_back(rt: &impl Print, first: &[u8], second: &[u8], line: &[u8]) {
     match joiner::find_named(first, second, line) {
-        HandBack::InFirst(at, size) => print_place(rt, 1, at, size),
-        HandBack::InSecond(at, size) => print_place(rt, 2, at, size),
-        HandBack::FirstRefused(k, place) => print_refusal_of(rt, k, place, b" of the first query"),
-        HandBack::SecondRefused(k, place) => print_refusal_of(
-            rt,
-            k,
-            place,
-            b" of the second query",
-        ),
-        HandBack::Refused(k, place) => print_refusal(rt, k, place),
+        Ok(HandBack::InFirst(at, size)) => print_place(rt, 1, at, size),
+        Ok(HandBack::InSecond(at, size)) => print_place(rt, 2, at, size),
+        Err(refusal) => print_join_refusal(rt, refusal),
     }
 }
 
 // R-13, and R-11's rewriting with link 1
-fn print_rewritten(rt: &impl Print, answer: Rewritten) {
+fn print_rewritten(rt: &impl Print, answer: Result<usize, Refusal>) {
     match answer {
-        Rewritten::Written(length) => print_written(rt, b"query ", length),
-        Rewritten::Refused(k, place) => print_refusal(rt, k, place),
+        Ok(length) => print_written(rt, b"query ", length),
+        Err(refusal) => print_fault(rt, refusal),
     }
 }
 
@@ -213,7 +200,7 @@ fn run_call(rt: &impl Print, call: u8, a: &[u8], b: &[u8], c: &[u8], out: &mut [
     print_word(rt, b"\n");
 }
 
-fn run_check(rt: &impl Print, answer: CheckAnswer) {
+fn run_check(rt: &impl Print, answer: Result<Option<usize>, Refusal>) {
     print_check(rt, answer);
     print_word(rt, b"\n");
 }

@@ -17,9 +17,10 @@ use Rattle.text.specs.Text.{Writes, ascii, decimal, is_digit}
 use Rattle.text.proofs.Writing.{writes_then, writes_taken}
 use Rattle.wording.specs.Words.{refused_text}
 use Rattle.checking.specs.CheckCall.{count_in, check_call_of}
-use Rattle.checker.specs.Promise.{meaning}
-use Rattle.checker.specs.declared.CheckAnswer.{CheckAnswer}
-use Rattle.checker.specs.declared.CheckAnswer.TheVariants as answer
+use Rattle.checker.specs.Promise.{judged_as, meaning}
+use Rattle.std.specs.Prelude.{Option as Found, Some, None, Result, Ok, Err}
+use Rattle.refusals.specs.declared.Refusal.{Refusal}
+use Rattle.refusals.specs.Numbers.{number_of}
 use Rattle.decimal_lines.specs.DecimalLines.{begins, ends_number, next_place, is_between, prepend, numbers_from, newline_in, newlines}
 use Rattle.check_printing.specs.CheckText.{text_bytes, derivation_in, checked_text, check_text_of}
 use Rattle.decimal_lines.specs.Puts.{Puts}
@@ -134,18 +135,22 @@ module _ (rest : List ℕ) where
       ∙ ap (λ (t : Bool). cond t (text_bytes (drop 6 rest)) rest) (sym f ∙ e)
 
 -- the words of an answer
-module _ (a : CheckAnswer) where
-  pub accepted_words : a ≡ answer.Accepted → ascii "accepted\n" ≡ checked_text (meaning a)
+module _ (o : Found ℕ) where
+  pub accepted_words : o ≡ None → ascii "accepted\n" ≡ checked_text (judged_as o)
   unfolding checked_text
-  accepted_words e = sym (ap (λ (b : CheckAnswer). checked_text (meaning b)) e)
+  accepted_words e = sym (ap (λ (x : Found ℕ). checked_text (judged_as x)) e)
 
-  pub wrong_words : (k : ℕ) → a ≡ answer.Wrong k → ascii "wrong line " ++ (decimal k ++ ascii "\n") ≡ checked_text (meaning a)
+  pub wrong_words : (k : ℕ) → o ≡ Some k → ascii "wrong line " ++ (decimal k ++ ascii "\n") ≡ checked_text (judged_as o)
   unfolding checked_text
-  wrong_words k e = sym (ap (λ (b : CheckAnswer). checked_text (meaning b)) e)
+  wrong_words k e = sym (ap (λ (x : Found ℕ). checked_text (judged_as x)) e)
 
-  pub refused_words : (k place : ℕ) → a ≡ answer.Refused k place → refused_text k place ++ ascii "\n" ≡ checked_text (meaning a)
+module _ (a : Result (Found ℕ) Refusal) where
+  pub found_words : (o : Found ℕ) → a ≡ Ok o → checked_text (judged_as o) ≡ checked_text (meaning a)
+  found_words o e = sym (ap (λ (b : Result (Found ℕ) Refusal). checked_text (meaning b)) e)
+
+  pub refused_words : (x : Refusal) → a ≡ Err x → refused_text (number_of x.fault) x.place ++ ascii "\n" ≡ checked_text (meaning a)
   unfolding checked_text
-  refused_words k place e = sym (ap (λ (b : CheckAnswer). checked_text (meaning b)) e)
+  refused_words x e = sym (ap (λ (b : Result (Found ℕ) Refusal). checked_text (meaning b)) e)
 
 pub size_is : {p q : ℕ} (bytes : List ℕ) → p ≡ get_or bytes 0 0 → q ≡ get_or bytes 1 0 → 256 * p + q ≡ count_in bytes
 unfolding count_in

@@ -2,14 +2,14 @@
 // for the text and write it.
 #![tactic(auto)]
 
-ghost use Rattle.std.specs.Prelude.{◌≡◌, ◌≤◌, min, length, take};
+ghost use Rattle.std.specs.Prelude.{◌≡◌, ◌≤◌, length, take};
 ghost use Rattle.text.specs.Text.{Writes};
 ghost use Rattle.checking.specs.CheckCall.{check_call_of};
 ghost use Rattle.call_limits.specs.Forms.{form_of};
-ghost use Rattle.checker.specs.Promise.{meaning};
+ghost use Rattle.checker.specs.Promise.{judged_as, meaning};
 ghost use Rattle.check_printing.specs.CheckText.{text_bytes, derivation_in, checked_text, check_text_of, checkderivation_text, checklinks_text};
 
-use checker::CheckAnswer;
+use refusals::Refusal;
 
 // The bytes of the derivation whose lines a text shows: how many, 0 where it is no text of lines.
 fn read_text(buffer: &mut [u8], text: &[u8]) -> usize
@@ -29,7 +29,7 @@ fn read_text(buffer: &mut [u8], text: &[u8]) -> usize
 }
 
 // What the call of either form answers of a query and of what stands behind it.
-fn answer(three: bool, query: &[u8], rest: &[u8]) -> CheckAnswer
+fn answer(three: bool, query: &[u8], rest: &[u8]) -> Result<Option<usize>, Refusal>
     ensures { meaning result ≡ check_call_of (form_of three) query.now (derivation_in rest.now) }
 {
     if !decimal_lines::begins(rest, b"unsat\n") {
@@ -40,19 +40,28 @@ fn answer(three: bool, query: &[u8], rest: &[u8]) -> CheckAnswer
     checker::check_in(three, query, &lines[..made])
 }
 
+// The words of what the lines are, and a newline.
+fn put_found(buffer: &mut [u8], found: Option<usize>) -> usize
+    ensures { Writes buffer.old 0 (checked_text (judged_as found)) buffer.new result × (result ≤ 64) }
+{
+    match found {
+        None => text::put_bytes(buffer, 0, b"accepted\n"),
+        Some(line) => {
+            let number = text::put_bytes(buffer, 0, b"wrong line ");
+            let end = text::put_decimal(buffer, number, line);
+            text::put_byte(buffer, end, b'\n')
+        }
+    }
+}
+
 // The words of an answer, and a newline.
-fn put_answer(buffer: &mut [u8], answer: CheckAnswer) -> usize
+fn put_answer(buffer: &mut [u8], answer: Result<Option<usize>, Refusal>) -> usize
     ensures { Writes buffer.old 0 (checked_text (meaning answer)) buffer.new result × (result ≤ 64) }
 {
     match answer {
-        CheckAnswer::Accepted => text::put_bytes(buffer, 0, b"accepted\n"),
-        CheckAnswer::Wrong(k) => {
-            let number = text::put_bytes(buffer, 0, b"wrong line ");
-            let end = text::put_decimal(buffer, number, k);
-            text::put_byte(buffer, end, b'\n')
-        }
-        CheckAnswer::Refused(k, place) => {
-            let end = wording::put_refused(buffer, 0, k, place);
+        Ok(found) => put_found(buffer, found),
+        Err(e) => {
+            let end = wording::put_refused(buffer, 0, e.fault.number(), e.place);
             text::put_byte(buffer, end, b'\n')
         }
     }
@@ -65,16 +74,6 @@ fn put_checked(three: bool, buffer: &mut [u8], query: &[u8], rest: &[u8]) -> usi
     put_answer(buffer, answer(three, query, rest))
 }
 
-// The smaller of two numbers.
-pub fn at_most(n: usize, most: usize) -> usize
-    ensures { result ≡ min n most }
-{
-    if most < n {
-        return most;
-    }
-    n
-}
-
 // The text of these bytes: the query's length in two bytes, the query in either form, and the derivation. It answers the length of the text,
 // which is stored as far as there is room; 64 bytes are always enough.
 fn put_text_in(three: bool, buffer: &mut [u8], input: &[u8]) -> usize
@@ -82,8 +81,8 @@ fn put_text_in(three: bool, buffer: &mut [u8], input: &[u8]) -> usize
 {
     let n = input.len();
     let size = 256 * tally::byte_at(input, 0) + tally::byte_at(input, 1);
-    let from = at_most(n, 2);
-    let to = at_most(n, 2 + size);
+    let from = n.min(2);
+    let to = n.min(2 + size);
     put_checked(three, buffer, &input[from..to], &input[to..])
 }
 

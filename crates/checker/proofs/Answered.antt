@@ -5,6 +5,7 @@ use mathlib.Core.Path.{◌≡◌, refl, sym, ap, ◌∙◌, subst}
 use mathlib.Core.Bool.{Bool, true, false, not, true≢false, false≢true}
 use mathlib.Core.List.{List, []}
 use mathlib.Core.Option.{none}
+use Rattle.std.specs.Prelude.{Option as CodeOption, Some, None, IfSome, Ok, Err}
 use Rattle.logic.specs.Query.{Query, term_count}
 use Rattle.logic.specs.Facts.{Joined}
 use Rattle.logic.specs.Derivation.{lines_in}
@@ -12,17 +13,18 @@ use Rattle.logic.specs.Walk.{limit}
 use Rattle.logic.specs.Calls.{CallForm}
 use Rattle.theory.proofs.Query.Tied.{Accepted}
 use Rattle.query.specs.declared.Layout.{Layout}
-use Rattle.query_checks.specs.declared.Checked.TheVariants as checked
+use Rattle.refusals.specs.declared.Refusal.{Refusal}
+use Rattle.refusals.specs.Numbers.{number_of as fault_number}
 use Rattle.link_query.specs.Said.{said}
 use Rattle.link_query.specs.Answers.{CheckedBy}
 use Rattle.start.specs.Started.{started}
 use Rattle.checking.specs.Fitting.{Goal, goal_of, start_goal, wrong_line}
 use Rattle.checking.specs.CheckCall.{Checked, accepted, wrong, refused, misshapen, by_wrong, query_refusal, check_call_of}
 use Rattle.checking.proofs.Claims.{check_refused, check_misshapen, check_judged}
-use Rattle.derivation_lines.specs.declared.Judged.{Judged}
 use Rattle.derivation_lines.specs.Lines.{Shaped, shapely}
-use Rattle.derivation_lines.specs.Judging.{JudgesGoal, Concludes}
+use Rattle.derivation_lines.specs.Judging.{Judged, number_of, JudgesGoal, Concludes}
 use Rattle.checker.specs.Ahead.{Ahead}
+use Rattle.checker.specs.Promise.{judged_as}
 use Rattle.checker.proofs.Range.{ahead-start}
 
 by_some : (k : ℕ) → 1 ≤ k → wrong k ≡ by_wrong k
@@ -42,19 +44,28 @@ start_ahead q ok j links n k e l t c =
     subst (λ (i : Joined). Ahead q i.facts k) (sym e) (ahead-start q ok k most)
 
 -- the start's goal by its path and the pairs joined there, and so the first wrong line
-module _ (q : Query) (bytes : List ℕ) (count : ℕ) (shape : Shaped bytes count) (j : Joined) (j_is : j ≡ started q) (r : Judged) (h : JudgesGoal q bytes count (goal_of j) 0 r) (k : ℕ) (found : Concludes count r k) where
-  first_is : k ≡ wrong_line q (lines_in bytes)
+module _ (q : Query) (bytes : List ℕ) (count : ℕ) (shape : Shaped bytes count) (j : Joined) (j_is : j ≡ started q) (r : Judged) (h : JudgesGoal q bytes count (goal_of j) 0 r) (o : CodeOption ℕ) (found : Concludes count r o) where
+  first_is : number_of o ≡ wrong_line q (lines_in bytes)
   first_is = found.concludes q bytes shape (subst (λ (g : Goal). JudgesGoal q bytes count g 0 r) (start_goal_lem q j j_is) h)
 
   abbrev Answers : Checked → Type 0
   Answers a = a ≡ by_wrong (wrong_line q (lines_in bytes))
 
-  pub answer_none : k ≡ 0 → Answers accepted
+  pub answer_none : o ≡ None → Answers accepted
   unfolding by_wrong
-  answer_none e = sym (ap by_wrong (sym first_is ∙ e))
+  answer_none e = sym (ap by_wrong (sym first_is ∙ ap number_of e))
 
-  pub answer_some : (k ≡ 0 → ⊥) → Answers (wrong k)
-  answer_some n = by_some k (omega (arith, n)) ∙ ap by_wrong first_is
+  pub answer_some : (k : ℕ) → o ≡ Some k → Answers (wrong k)
+  answer_some k e =
+      let l = subst (λ (p : CodeOption ℕ). IfSome p (λ i. 1 ≤ i)) e (found.numbered q bytes (subst (λ (g : Goal). JudgesGoal q bytes count g 0 r) (start_goal_lem q j j_is) h)) in
+      by_some k l ∙ ap by_wrong (ap number_of (sym e) ∙ first_is)
+
+  pub answer_found : Answers (judged_as o)
+  answer_found = go o refl
+    where
+      go : (x : CodeOption ℕ) → o ≡ x → Answers (judged_as x)
+      go None e = answer_none e
+      go (Some k) e = answer_some k e
 
 -- the checks
 
@@ -69,11 +80,11 @@ misshapen-not bytes b e = go (misshapen bytes) b e
     go false false e = refl
 
 module _ (f : CallForm) (query derivation : List ℕ) where
-  pub call_refused : (k p : ℕ) → CheckedBy f (checked.Refused k p) query → refused k p ≡ check_call_of f query derivation
+  pub call_refused : (e : Refusal) → CheckedBy f (Err e) query → refused (fault_number e.fault) e.place ≡ check_call_of f query derivation
   unfolding query_refusal
-  call_refused k p h = sym (check_refused f query derivation k p (h (record { order = []; query = query; room = 0 }) refl))
+  call_refused e h = sym (check_refused f query derivation (fault_number e.fault) e.place (h (record { order = []; query = query; room = 0 }) refl))
 
-  module _ (l : Layout) (h : CheckedBy f (checked.Accepted l) query) where
+  module _ (l : Layout) (h : CheckedBy f (Ok l) query) where
     clear : query_refusal f query ≡ none
     unfolding query_refusal
     clear = h.free (record { order = []; query = query; room = 0 }) refl

@@ -3,7 +3,7 @@ use Prim.Native.Nat.{ℕ, zero, suc, ◌+◌, ◌-◌, ◌≤◌, ◌<◌}
 use native.Mathlib.Omega.{arith}
 use native.Mathlib.Numerals.{add-one}
 use mathlib.Core.Path.{◌≡◌, refl, sym, ap, ◌∙◌, subst}
-use mathlib.Core.Bool.{true, false, true≢false}
+use mathlib.Core.Bool.{true}
 use mathlib.Core.List.{List, [], ◌∷◌, ◌++◌, map}
 use mathlib.Core.Option.{Option, none, some}
 use lib.ListN.{length, get_or, drop, length-map}
@@ -15,9 +15,9 @@ use Rattle.theory.proofs.Basics.Count.{get_d_mem}
 use Rattle.alternatives.specs.Alternatives.{count_of, alternative_at}
 use Rattle.alternatives.proofs.Alternatives.{count_is, alternative_is}
 use Rattle.checking.specs.Fitting.{Goal, goal_of, goals_of}
-use Rattle.derivation_lines.specs.declared.Judged.{Judged}
+use Rattle.std.specs.Prelude.{Ok, Err, IfOk, IfErr}
 use Rattle.derivation_lines.specs.Lines.{Shaped, line_at}
-use Rattle.derivation_lines.specs.Judging.{wrong_at, resumed, JudgesHead, JudgesGoal}
+use Rattle.derivation_lines.specs.Judging.{Judged, wrong_at, resumed, JudgesHead, JudgesGoal}
 use Rattle.derivation_lines.proofs.Lines.{line_within}
 use Rattle.checker.specs.Reading.{Read, ending, ruling, unfit, read_at}
 use Rattle.checker.specs.Ahead.{Ahead}
@@ -35,14 +35,6 @@ drop_all [] zero h = refl
 drop_all [] (suc i) h = refl
 drop_all (x ∷ xs) zero h = absurd (omega arith)
 drop_all (x ∷ xs) (suc i) h = drop_all xs i (omega arith)
-
-resumed-true : (q : Query) (bytes : List ℕ) (gs : List Goal) (r : Judged) (k : ℕ) → r.fits ≡ true → r.at ≡ k → wrong_at q bytes gs k ≡ resumed q bytes gs r
-unfolding resumed
-resumed-true q bytes gs r k f g = sym (rw (f, g) refl)
-
-resumed-false : (q : Query) (bytes : List ℕ) (gs : List Goal) (r : Judged) (k : ℕ) → r.fits ≡ false → r.at ≡ k → k ≡ resumed q bytes gs r
-unfolding resumed
-resumed-false q bytes gs r k f g = sym (rw (f, g) refl)
 
 -- the branches of a rule from i on are left of a path, its own line having been line `at`
 pub record BranchesLeft (q : Query) (bytes : List ℕ) (count : ℕ) (s : Facts) (at : ℕ) (m : Move) (i to : ℕ) : Type 0 where
@@ -69,22 +61,18 @@ module _ (q : Query) (bytes : List ℕ) (count : ℕ) (shape : Shaped bytes coun
     abbrev bare : Goal
     bare = record { heading = []; facts = s }
 
-    pub goal_ends : read_at q s (line_at bytes at) ≡ ending → (r : Judged) → r.fits ≡ true → r.at ≡ at + 1 → JudgesGoal q bytes count bare at r
-    unfolding told
-    goal_ends e r f g =
+    pub goal_ends : read_at q s (line_at bytes at) ≡ ending → JudgesGoal q bytes count bare at (Ok (at + 1))
+    unfolding told resumed
+    goal_ends e =
         record {
-          judges = λ gs. path_ends q bytes at s gs e ∙ resumed-true q bytes gs r (at + 1) f g;
-          within = λ t. let l = read_within s at ending e (omega arith) in omega arith;
-          numbered = λ t. absurd (true≢false (sym f ∙ t));
+          judges = λ gs. path_ends q bytes at s gs e;
+          within = read_within s at ending e (omega arith);
+          numbered = tt;
         }
 
-    pub goal_wrong : read_at q s (line_at bytes at) ≡ unfit → (r : Judged) → r.fits ≡ false → r.at ≡ at + 1 → JudgesGoal q bytes count bare at r
-    goal_wrong e r f g =
-        record {
-          judges = λ gs. path_wrong q bytes at s gs e ∙ resumed-false q bytes gs r (at + 1) f g;
-          within = λ t. absurd (true≢false (sym t ∙ f));
-          numbered = λ t. omega (arith, g);
-        }
+    pub goal_wrong : read_at q s (line_at bytes at) ≡ unfit → JudgesGoal q bytes count bare at (Err (at + 1))
+    unfolding resumed
+    goal_wrong e = record { judges = λ gs. path_wrong q bytes at s gs e; within = tt; numbered = omega arith }
 
     pub branches_begin : (m : Move) → read_at q s (line_at bytes at) ≡ ruling m → BranchesLeft q bytes count s at m 0 (at + 1)
     unfolding told
@@ -95,18 +83,20 @@ module _ (q : Query) (bytes : List ℕ) (count : ℕ) (pairs : List (ℕ × ℕ)
   abbrev goal : Goal
   goal = record { heading = join_lines pairs; facts = s }
 
-  pub head-judged : head.fits ≡ false → JudgesGoal q bytes count goal first head
-  head-judged f =
+  pub head-judged : (wrong : ℕ) → head ≡ Err wrong → JudgesGoal q bytes count goal first (Err wrong)
+  unfolding resumed
+  head-judged wrong f =
       record {
-        judges = λ gs. h.judges q s gs ∙ sym (resumed-false q bytes (record { heading = []; facts = s } ∷ gs) head head.at f refl) ∙ resumed-false q bytes gs head head.at f refl;
-        within = λ t. absurd (true≢false (sym t ∙ f));
-        numbered = h.numbered;
+        judges = λ gs. h.judges q s gs ∙ ap (resumed q bytes (record { heading = []; facts = s } ∷ gs)) f;
+        within = tt;
+        numbered = subst (λ (r : Judged). IfErr r (λ k. 1 ≤ k)) f h.numbered;
       }
 
-  pub after_head : head.fits ≡ true → (r : Judged) → JudgesGoal q bytes count (record { heading = []; facts = s }) head.at r → JudgesGoal q bytes count goal first r
-  after_head f r j =
+  pub after_head : (at : ℕ) → head ≡ Ok at → (r : Judged) → JudgesGoal q bytes count (record { heading = []; facts = s }) at r → JudgesGoal q bytes count goal first r
+  unfolding resumed
+  after_head at f r j =
       record {
-        judges = λ gs. h.judges q s gs ∙ sym (resumed-true q bytes (record { heading = []; facts = s } ∷ gs) head head.at f refl) ∙ j.judges gs;
+        judges = λ gs. h.judges q s gs ∙ ap (resumed q bytes (record { heading = []; facts = s } ∷ gs)) f ∙ j.judges gs;
         within = j.within;
         numbered = j.numbered;
       }
@@ -140,24 +130,30 @@ module _ (q : Query) (bytes : List ℕ) (count : ℕ) (s : Facts) (at k : ℕ) (
     at-branch : (gs : List Goal) → wrong_at q bytes (record { heading = []; facts = s } ∷ gs) at ≡ resumed q bytes (drop (i + 1) (goals_of (term_count q) s m) ++ gs) r
     at-branch gs = b.left gs ∙ ap (λ (hs : List Goal). wrong_at q bytes (hs ++ gs) to) (next_goal i j in_row j_is) ∙ judged.judges (drop (i + 1) (goals_of (term_count q) s m) ++ gs)
 
-    pub branches_next : r.fits ≡ true → BranchesLeft q bytes count s at m (i + 1) r.at
-    branches_next f = record { left = λ gs. at-branch gs ∙ sym (resumed-true q bytes (drop (i + 1) (goals_of (term_count q) s m) ++ gs) r r.at f refl); inside = judged.within f }
-
-    pub branches_wrong : r.fits ≡ false → JudgesGoal q bytes count (record { heading = []; facts = s }) at r
-    branches_wrong f =
+    pub branches_next : (next : ℕ) → r ≡ Ok next → BranchesLeft q bytes count s at m (i + 1) next
+    unfolding resumed
+    branches_next next f =
         record {
-          judges = λ gs. at-branch gs ∙ sym (resumed-false q bytes (drop (i + 1) (goals_of (term_count q) s m) ++ gs) r r.at f refl) ∙ resumed-false q bytes gs r r.at f refl;
-          within = λ t. absurd (true≢false (sym t ∙ f));
-          numbered = judged.numbered;
+          left = λ gs. at-branch gs ∙ ap (resumed q bytes (drop (i + 1) (goals_of (term_count q) s m) ++ gs)) f;
+          inside = subst (λ (o : Judged). IfOk o (λ k. k ≤ count)) f judged.within;
         }
 
-  pub branches_end : (i to : ℕ) → BranchesLeft q bytes count s at m i to → count_of rule z ≤ i → (r : Judged) → r.fits ≡ true → r.at ≡ to → JudgesGoal q bytes count (record { heading = []; facts = s }) at r
-  unfolding goals_of
-  branches_end i to b l r f g =
+    pub branches_wrong : (wrong : ℕ) → r ≡ Err wrong → JudgesGoal q bytes count (record { heading = []; facts = s }) at (Err wrong)
+    unfolding resumed
+    branches_wrong wrong f =
+        record {
+          judges = λ gs. at-branch gs ∙ ap (resumed q bytes (drop (i + 1) (goals_of (term_count q) s m) ++ gs)) f;
+          within = tt;
+          numbered = subst (λ (o : Judged). IfErr o (λ k. 1 ≤ k)) f judged.numbered;
+        }
+
+  pub branches_end : (i to : ℕ) → BranchesLeft q bytes count s at m i to → count_of rule z ≤ i → JudgesGoal q bytes count (record { heading = []; facts = s }) at (Ok to)
+  unfolding goals_of resumed
+  branches_end i to b l =
       record {
-        judges = λ gs. b.left gs ∙ ap (λ (hs : List Goal). wrong_at q bytes (hs ++ gs) to) (drop_all (goals_of (term_count q) s m) i (omega (arith, many, length-map (alternatives (term_count q) s.graph m) (λ c. goal_of (branch (term_count q) s c))))) ∙ resumed-true q bytes gs r to f g;
-        within = λ t. subst (λ (l : ℕ). l ≤ count) (sym g) b.inside;
-        numbered = λ t. absurd (true≢false (sym f ∙ t));
+        judges = λ gs. b.left gs ∙ ap (λ (hs : List Goal). wrong_at q bytes (hs ++ gs) to) (drop_all (goals_of (term_count q) s m) i (omega (arith, many, length-map (alternatives (term_count q) s.graph m) (λ c. goal_of (branch (term_count q) s c)))));
+        within = b.inside;
+        numbered = tt;
       }
 
   -- a branch is one step deeper

@@ -1,8 +1,8 @@
 -- One line more: what is left, and what is found wrong.
 use Prim.Native.Nat.{ℕ, ◌+◌, ◌≤◌, ◌<◌}
 use native.Mathlib.Omega.{arith}
-use mathlib.Core.Path.{◌≡◌, refl, sym, ap, ◌∙◌, subst}
-use mathlib.Core.Bool.{Bool, true, false, cond, true≢false, false≢true}
+use mathlib.Core.Path.{◌≡◌, refl, ap, ◌∙◌, subst}
+use mathlib.Core.Bool.{Bool, true, false, cond, false≢true}
 use mathlib.Core.List.{List, [], ◌∷◌, ◌++◌}
 use mathlib.Core.Option.{Option, none, some, Option-elim}
 use Rattle.logic.specs.Search.{keep}
@@ -14,7 +14,7 @@ use Rattle.joins.specs.Pairs.{pair_at, pairs_of}
 use Rattle.joins.specs.declared.Pairs.{Pairs}
 use Rattle.walk.proofs.Lines.{pairs_from, pairs_whole, pairs_end, pairs_next}
 use Rattle.checking.specs.Fitting.{Goal, same_line, move_in, goals_of, after_rule, at_path, at_goal, step}
-use Rattle.derivation_lines.specs.declared.Judged.{Judged}
+use Rattle.std.specs.Prelude.{Ok, Err}
 use Rattle.derivation_lines.specs.Lines.{Shaped, line_at, is_line}
 use Rattle.derivation_lines.specs.Judging.{wrong_at, resumed, JudgesHead}
 use Rattle.derivation_lines.proofs.Lines.{line_within}
@@ -102,7 +102,7 @@ module _ (bytes : List ℕ) (count : ℕ) (p : Pairs) (first : ℕ) where
   head_begin h = record { left = λ q s gs. ap (λ (ps : List (ℕ × ℕ)). wrong_at q bytes (record { heading = join_lines ps; facts = s } ∷ gs) first) (pairs_whole p); inside = h }
 
   abbrev join_of : ℕ → Line
-  join_of i = line 10 (pair_at p.kept p.replaced i).0 (pair_at p.kept p.replaced i).1 0
+  join_of i = line 10 (pair_at p.entries i).0 (pair_at p.entries i).1 0
 
   headed-at : (i to : ℕ) → i < p.count → HeadLeft i to → (q : Query) (s : Facts) (gs : List Goal) → wrong_at q bytes (record { heading = join_lines (pairs_of p); facts = s } ∷ gs) first ≡ wrong_at q bytes (record { heading = join_of i ∷ join_lines (pairs_from p (i + 1)); facts = s } ∷ gs) to
   unfolding join_lines
@@ -120,20 +120,20 @@ module _ (bytes : List ℕ) (count : ℕ) (p : Pairs) (first : ℕ) where
       read none f e = absurd (false≢true e)
       read (some m) f e = let b = line_within bytes count to m shape f in omega arith
 
-  pub head_wrong : (i to : ℕ) → i < p.count → HeadLeft i to → is_line (line_at bytes to) (join_of i) ≡ false → (r : Judged) → r.fits ≡ false → r.at ≡ to + 1 → JudgesHead bytes count (pairs_of p) first r
+  pub head_wrong : (i to : ℕ) → i < p.count → HeadLeft i to → is_line (line_at bytes to) (join_of i) ≡ false → JudgesHead bytes count (pairs_of p) first (Err (to + 1))
   unfolding resumed
-  head_wrong i to h l e r f g =
+  head_wrong i to h l e =
       record {
-        judges = λ q s gs. headed-at i to h l q s gs ∙ join_unfit q bytes to (join_of i) (join_lines (pairs_from p (i + 1))) s gs e ∙ sym (rw (f, g) refl);
-        within = λ t. absurd (true≢false (sym t ∙ f));
-        numbered = λ t. omega (arith, g);
+        judges = λ q s gs. headed-at i to h l q s gs ∙ join_unfit q bytes to (join_of i) (join_lines (pairs_from p (i + 1))) s gs e;
+        within = tt;
+        numbered = omega arith;
       }
 
-  pub head_end : (i to : ℕ) → p.count ≤ i → HeadLeft i to → (r : Judged) → r.fits ≡ true → r.at ≡ to → JudgesHead bytes count (pairs_of p) first r
+  pub head_end : (i to : ℕ) → p.count ≤ i → HeadLeft i to → JudgesHead bytes count (pairs_of p) first (Ok to)
   unfolding resumed join_lines
-  head_end i to h l r f g =
+  head_end i to h l =
       record {
-        judges = λ q s gs. l.left q s gs ∙ ap (λ (ps : List (ℕ × ℕ)). wrong_at q bytes (record { heading = join_lines ps; facts = s } ∷ gs) to) (pairs_end p i h) ∙ sym (rw (f, g) refl);
-        within = λ t. subst (λ (k : ℕ). k ≤ count) (sym g) l.inside;
-        numbered = λ t. absurd (true≢false (sym f ∙ t));
+        judges = λ q s gs. l.left q s gs ∙ ap (λ (ps : List (ℕ × ℕ)). wrong_at q bytes (record { heading = join_lines ps; facts = s } ∷ gs) to) (pairs_end p i h);
+        within = l.inside;
+        numbered = tt;
       }

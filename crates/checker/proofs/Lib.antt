@@ -2,5 +2,4 @@ pub mod Judging
 pub mod Readings
 pub mod Range
 pub mod Goals
-pub mod Paths
 pub mod Answered

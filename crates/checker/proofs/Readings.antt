@@ -12,8 +12,7 @@ use Rattle.logic.specs.Query.{Query, term_count}
 use Rattle.logic.specs.Facts.{Facts, Line, line, is_clash, clash}
 use Rattle.logic.specs.Rules.{Rule, rules, rule_number, rule_of, Triple, triple, Move, move, applies, move_of}
 use Rattle.logic.specs.Walk.{is_clashed}
-use Rattle.facts.specs.Path.{path_of, HasLink}
-use Rattle.facts.specs.declared.Facts as code
+use Rattle.facts.specs.Path.{HasLink}
 use Rattle.checking.specs.Fitting.{move_in}
 use Rattle.checking.proofs.Moves.{move_of_unruled, in_linked}
 use Rattle.derivation_lines.specs.Lines.{Shaped, line_at}
@@ -26,8 +25,8 @@ unfolding move_in rule_of rules rule_number find first_of or_else keep
 clash_unruled links x y z = move_of_unruled links 9 (triple x y z) refl
 
 -- the move that the code names, and that it is by a link of the path
-pub named_in : (s : code.Facts) (k x y z : ℕ) (o : Option Move) → o ≡ move_of (cond s.single 1 3) k (triple x y z) → o ≡ move_in (path_of s).links (line k x y z)
-unfolding move_in path_of
+pub named_in : (s : Facts) (k x y z : ℕ) (o : Option Move) → o ≡ move_of s.links k (triple x y z) → o ≡ move_in s.links (line k x y z)
+unfolding move_in
 named_in s k x y z o h = h
 
 pub named_linked : (s : Facts) (l : Line) (i : ℕ) (r : Rule) (t : Triple) → some (move i r t) ≡ move_in s.links l → HasLink s i

@@ -2,20 +2,13 @@
 use Rattle.std.specs.Prelude.{cond}
 use Rattle.std.proofs.Math.Option.{Option, none, some}
 use Rattle.logic.specs.Query.{Query, term_count}
-use Rattle.logic.specs.Facts.{Facts, Joined, Line, is_clash}
-use Rattle.logic.specs.Rules.{triple, Move, move, applies}
+use Rattle.logic.specs.Facts.{Facts, Line, is_clash}
+use Rattle.logic.specs.Rules.{Move, applies}
 use Rattle.logic.specs.Walk.{is_clashed}
-use Rattle.facts.specs.Path.{path_as}
-use Rattle.joins.specs.Pairs.{pairs_of}
-use Rattle.rules.specs.Answers.{kind_of}
+use Rattle.rules.specs.Answers.{move_as}
 use Rattle.checking.specs.Fitting.{move_in}
-use Rattle.checker.specs.declared.Branch.{Branch}
 use Rattle.checker.specs.declared.Reading.{Reading}
 use Rattle.checker.specs.declared.Reading.TheVariants as reading
-
--- pairs that were joined, and the path then
-abbrev pub branch_of : Branch → Joined
-branch_of j = record { pairs = pairs_of j.pairs; facts = path_as j.single j.rep j.link j.reach }
 
 -- What a line is at a path: its end, a rule that applies there, or wrong.
 pub data Read : Type 0 where
@@ -36,5 +29,5 @@ read_at q s (some l) = read_line q s l
 
 abbrev pub reading_of : Reading → Read
 reading_of reading.Ends = ending
-reading_of (reading.Applies k r x y z) = ruling (move k.0 (kind_of r) (triple x.0 y.0 z.0))
+reading_of (reading.Applies m) = ruling (move_as m)
 reading_of reading.Wrong = unfit

@@ -18,7 +18,7 @@ use Rattle.theory.proofs.Paths.Ranged.{live_range}
 use Rattle.rows.specs.Bits.{bit}
 use Rattle.rows.specs.Square.{row_of, square}
 use Rattle.link_rows.specs.Cube.{cube}
-use Rattle.facts.specs.Path.{graph_of, graph_in, no_facts, graphs, path_as, replaced_by, HasLink}
+use Rattle.facts.specs.Path.{graph_of, graph_in, no_facts, graphs, path_as, HasLink}
 use Rattle.facts.proofs.Path.{linking, alike-graph, graph_at, graph_beyond, graph-none}
 use Rattle.rows.proofs.Bits.{bit-and, bit-or, bit-none}
 use Rattle.rows.proofs.Square.{row_or, row_in, row_beyond, row_none, square_row, square_in, square_above, square_beside, set_same, set_other}
@@ -210,9 +210,6 @@ module _ (rows later : List ℕ) (k : ℕ) (p : Passed later rows k) where
           (λ o. ⊎_elim (λ o'. passed_via a c o.0 (below k b c m o.1 o')) (λ o'. passed_via a c o.0 o'.1) (passed_cases b c f))
           (passed_cases a b e)
 
-pub onward-none : (rows : List ℕ) → OnwardBelow rows 0
-onward-none rows a b c l e f = absurd (omega arith)
-
 pub onward_all : (rows : List ℕ) → OnwardBelow rows 17 → Onward rows
 onward_all rows below a b c e f = ⊎_elim (λ l. below a b c (omega arith) e f) (λ l. absurd (true-false e (square_beside rows a b l))) (le_cases b 16)
 
@@ -291,9 +288,6 @@ module _ (alive : ℕ → Bool) (link reach : List ℕ) where
   abbrev pub ClosedBelow : ℕ → List ℕ → Type 0
   ClosedBelow k later = ((j : ℕ) → 0 < j → j < k → LinkClosed alive (graph_in link reach j) (graph_in link later j)) × ((j : ℕ) → k ≤ j → cube later j ≡ cube reach j)
 
-  pub closed_none : ClosedBelow 1 reach
-  closed_none = (λ j l m. absurd (omega arith), λ j l. refl)
-
   pub closed_more : (k : ℕ) (cur later : List ℕ) → LinkClosed alive (graph_in link cur k) (graph_in link later k) →
       ((j : ℕ) → (j ≡ k → ⊥) → cube later j ≡ cube cur j) → ClosedBelow k cur → ClosedBelow (k + 1) later
   unfolding graph_in
@@ -307,17 +301,13 @@ module _ (alive : ℕ → Bool) (link reach : List ℕ) where
   )
 
 -- the path that arrays hold, once all its links are closed
-module _ (n : ℕ) (single : Bool) (rep link reach later : List ℕ) (alive : ℕ → Bool) (e : alive ≡ live n (replaced_by rep)) (k : ℕ)
+module _ (n : ℕ) (single : Bool) (rep link reach later : List ℕ) (alive : ℕ → Bool) (e : alive ≡ live n (path_as single rep link reach)) (k : ℕ)
     (past : cond single 1 3 < k) (below : ClosedBelow alive link reach k later) where
   abbrev was : Facts
   was = path_as single rep link reach
 
   abbrev becomes : Facts
   becomes = path_as single rep link later
-
-  alive_is : alive ≡ live n was
-  unfolding live replaced_by
-  alive_is = e
 
   at_each : (i : ℕ) → HasLink was i → LinkClosed alive (was.graph i) (becomes.graph i)
   at_each i h = rw (graph_at single link reach i h.1, graph_at single link later i h.1) (below.0 i h.0 (omega (arith, h.1, past)))
@@ -333,4 +323,12 @@ module _ (n : ℕ) (single : Bool) (rep link reach later : List ℕ) (alive : �
       none rows l z = graph_at single link rows i l ∙ graph-none link rows i z
 
   pub rows-closed : n ≤ 16 → Closes n was becomes × Closed n becomes
-  rows-closed small = (closes n was becomes alive alive_is refl refl at_each outside, closed n was becomes alive alive_is refl refl at_each outside small)
+  rows-closed small = (closes n was becomes alive e refl refl at_each outside, closed n was becomes alive e refl refl at_each outside small)
+
+-- the same where the other arrays are handed back as they were
+pub path-closed : (n : ℕ) (single : Bool) (rep link reach : List ℕ) (single' : Bool) (rep' link' later : List ℕ) (alive : ℕ → Bool) →
+    single' ≡ single → rep' ≡ rep → link' ≡ link → alive ≡ live n (path_as single rep link reach) → (k : ℕ) → cond single 1 3 < k →
+    ClosedBelow alive link reach k later → n ≤ 16 →
+    Closes n (path_as single rep link reach) (path_as single' rep' link' later) × Closed n (path_as single' rep' link' later)
+path-closed n single rep link reach single' rep' link' later alive d f g e k past below small =
+    rw (d, f, g) (rows-closed n single rep link reach later alive e k past below small)

@@ -7,7 +7,7 @@ ghost use Rattle.logic.specs.Decision.{Closes};
 ghost use Rattle.rows.specs.Bits.{bit};
 ghost use Rattle.rows.specs.Square.{square};
 ghost use Rattle.link_rows.specs.Cube.{cube};
-ghost use Rattle.facts.specs.Path.{graph_of, graph_in, path_as, path_of};
+ghost use Rattle.facts.specs.Path.{graph_of, graph_in, path_of};
 ghost use Rattle.closing.specs.Rows.{Within, Above, Seeded, Passed, Onward, LinkClosed};
 ghost use Rattle.closing.specs.Closed.{Closed, three_of, begins};
 
@@ -19,11 +19,9 @@ fn seed(alive: u32, link: &[u32; 17], reach: &mut [u32])
     requires { length reach.old ≡ 17 }
     ensures { Within (bit alive) (square link.now) (square reach.old) reach.new × Above (square reach.old) reach.new × Seeded (bit alive) (square link.now) reach.new × (length reach.new ≡ 17) }
 {
-    let mut a: usize = 0;
-    while a < 17 {
+    for a in 0..17 {
         let own = rows::only(a) & alive;
-        reach[a] = reach[a] | (link[a] | own);
-        a += 1;
+        reach[a] |= link[a] | own;
     }
 }
 
@@ -32,10 +30,7 @@ fn passed_on(row: u32, y: usize, far: u32) -> u32
     requires { y ≤ 16 }
     ensures { (i : ℕ) → bit result i ≡ bit row y and bit far i }
 {
-    if rows::has(row, y) {
-        return far;
-    }
-    0
+    if rows::has(row, y) { far } else { 0 }
 }
 
 // TRANS2 through y: whoever reaches y reaches what y does.
@@ -47,11 +42,8 @@ fn through(rows: &mut [u32], y: usize)
     if far == 0 {
         return;
     }
-    let mut a: usize = 0;
-    while a < 17 {
-        let more = passed_on(rows[a], y, far);
-        rows[a] = rows[a] | more;
-        a += 1;
+    for row in rows.iter_mut() {
+        *row |= passed_on(*row, y, far);
     }
 }
 
@@ -60,10 +52,8 @@ fn pass_on(rows: &mut [u32])
     requires { length rows.old ≡ 17 }
     ensures { ((alive : ℕ → Bool) (link reach : ℕ → ℕ → Bool) → Within alive link reach rows.old → Within alive link reach rows.new) × Above (square rows.old) rows.new × Onward rows.new × (length rows.new ≡ 17) }
 {
-    let mut y: usize = 0;
-    while y < 17 {
+    for y in 0..17 {
         through(rows, y);
-        y += 1;
     }
 }
 
@@ -83,38 +73,18 @@ fn close_by(alive: u32, link: &[u32; 51], reach: &mut [u32], k: Link)
 {
     let own = link_rows::rows_of(link, k);
     let from = link_rows::place(k);
-    let to = from + 17;
-    close_link(alive, &own, &mut reach[from..to]);
+    close_link(alive, &own, &mut reach[from..from + 17]);
 }
 
 // The same of every link of a path.
-pub fn close_rows<'a>(
-    single: bool,
-    rep: &'a [u8; 17],
-    link: &'a [u32; 51],
-    reach: &mut [u32; 51],
-    n: usize,
-)
-    requires { (n ≤ 16) × (length reach.old ≡ 51) }
-    ensures { Closes n (path_as single rep.now link.now reach.old) (path_as single rep.now link.now reach.new) × Closed n (path_as single rep.now link.now reach.new) × (length reach.new ≡ 51) }
-{
-    let alive = facts::live(rep, n);
-    let count = facts::links(single);
-    let mut k: usize = 1;
-    while k <= count {
-        close_by(alive, link, reach, Link(k));
-        k += 1;
-    }
-}
-
-// The path closed: its record is copied once, and its rows are closed in place.
-pub fn close(s: Facts, n: usize) -> Facts
+pub fn close(s: &mut Facts, n: usize)
     requires { n ≤ 16 }
-    ensures { Closes n (path_of s) (path_of result) × Closed n (path_of result) }
+    ensures { Closes n (path_of s.old) (path_of s.new) × Closed n (path_of s.new) }
 {
-    let mut t = s;
-    close_rows(s.single, &s.rep, &s.link, &mut t.reach, n);
-    t
+    let alive = s.live(n);
+    for k in 1..=s.links() {
+        close_by(alive, &s.link, &mut s.reach, Link(k));
+    }
 }
 
 // Three numbers are those of REFLEX, TRANS1 and TRANS2, in whatever order.

@@ -7,7 +7,7 @@ use mathlib.Core.Bool.{Bool, true, false, not, cond, ◌&&◌}
 use mathlib.Core.List.{List, [], ◌∷◌, Memᴰ}
 use mathlib.Core.Option
 use mathlib.Core.Option.{Option, none, some}
-use lib.ListN.{length, get_or, set}
+use lib.ListN.{length, get_or, set, length-set}
 use lib.Dec.{eqb, ltb}
 use borrow.Author.Tests.{lt-ltb, eqb-true, eq-eqb}
 use Rattle.logic.specs.Search.{◌and◌, from, any, select, find}
@@ -128,6 +128,25 @@ link_kept n g rep links full v within room e =
     let k = at_kept n g (link_of links) v rep e in
     link_turn n g rep links full v within room (link_of links v) (sym k)
     ∙ ap (λ (p : ℕ → ℕ). link_each n g p (select (λ t. eqb (rep t) t) (from (n + 1 - (v + 1)) (v + 1)))) (sym (fun_ext (λ t. same n g rep links full v within room (link_of links v) (sym k) t k)))
+
+-- the links so far, those that come out of them being the whole: after the turn of v, which gets one or keeps its own
+abbrev pub Linking : ℕ → Graph → (ℕ → ℕ) → ℕ → (ℕ → ℕ) → List ℕ → Type 0
+Linking n g rep v whole links =
+    (length links ≡ 17) × InRange links × (whole ≡ link_each n g (link_of links) (select (λ t. eqb (rep t) t) (from (n + 1 - v) v)))
+
+pub linked : (n : ℕ) (g : Graph) (rep : ℕ → ℕ) (links : List ℕ) (v : ℕ) → v ≤ n → n ≤ 16 → (r : ℕ) →
+    (eqb (rep v) v && eqb (link_of links v) 0) ≡ true → r ≡ new_link n g (link_of links) v → (whole : ℕ → ℕ) → Linking n g rep v whole links →
+    Linking n g rep (v + 1) whole (set links v r)
+linked n g rep links v within room r e f whole (full, low, so_far) =
+    let given = link_new n g rep links v e f in (
+      simp length-set full,
+      turn_range n g rep links full v within room r given low,
+      so_far ∙ link_turn n g rep links full v within room r given,
+    )
+
+pub left_as_is : (n : ℕ) (g : Graph) (rep : ℕ → ℕ) (links : List ℕ) (v : ℕ) → v ≤ n → n ≤ 16 → (eqb (rep v) v && eqb (link_of links v) 0) ≡ false →
+    (whole : ℕ → ℕ) → Linking n g rep v whole links → Linking n g rep (v + 1) whole links
+left_as_is n g rep links v within room e whole (full, low, so_far) = (full, low, so_far ∙ link_kept n g rep links full v within room e)
 
 pub link_end : (n : ℕ) (g : Graph) (q : ℕ → Bool) (p : ℕ → ℕ) (v : ℕ) → n < v → link_each n g p (select q (from (n + 1 - v) v)) ≡ p
 unfolding link_each

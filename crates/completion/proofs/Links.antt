@@ -15,6 +15,10 @@ use Rattle.logic.specs.Search.{from, find}
 use Rattle.logic.specs.Facts.{Graph, terms}
 use Rattle.logic.specs.Rules.{next}
 use Rattle.theory.proofs.Basics.Search.{bool_cases, find-some, from-mem}
+use Rattle.std.specs.Prelude as code
+use Rattle.std.specs.Option.{unwrap_or}
+use Rattle.rows.specs.declared.Term.{Term}
+use Rattle.rows.specs.Options.{found_of}
 use Rattle.rows.specs.Square.{square}
 use Rattle.facts.specs.Path.{links_in}
 use Rattle.rows.proofs.Square.{square_above}
@@ -60,6 +64,11 @@ next_beyond n link t h = ap (λ (o : Option ℕ). Option.get_or o 0) (find_nothi
 pub next_all : (n : ℕ) (link : List ℕ) (links : List ℕ) → length links ≡ 17 → LinkedBelow 17 (next n (links_in link)) (link_of links) → link_of links ≡ next n (links_in link)
 next_all n link links full m = fun_ext (λ x. ⊎_elim (λ l. m x (ltb-true x 17 l)) (λ o. let h = ltb-false x 17 o in
     link_beyond links x (omega arith) ∙ sym (next_beyond n link x h)) (bool_cases (ltb x 17)))
+
+-- what was found, or 0
+pub found_or : (o : code.Option Term) (t : Term) → t ≡ unwrap_or o (record { 0 = 0 }) → t.0 ≡ Option.get_or (found_of o) 0
+found_or (code.Some a) t e = ap (λ (u : Term). u.0) e
+found_or code.None t e = ap (λ (u : Term). u.0) e
 
 pub next_found : (n : ℕ) (link : List ℕ) (t : ℕ) (o : Option ℕ) → o ≡ find (square link t) (terms n) → Option.get_or o 0 ≡ next n (links_in link) t
 unfolding next links_in

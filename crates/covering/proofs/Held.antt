@@ -23,9 +23,6 @@ abbrev pub Below : (ℕ → Type 0) → ℕ → Type 0
 Below P k = (i : ℕ) → i < k → P i
 
 module _ (P : ℕ → Type 0) where
-  pub below_none : (k : ℕ) → k ≡ 0 → Below P k
-  below_none k e i l = absurd (omega arith)
-
   pub below_more : (k : ℕ) → Below P k → P k → Below P (k + 1)
   below_more k all here i l = ⊎_elim (λ e. subst P (sym e) here) (λ d. all i (omega (arith, d))) (eq_cases i k)
 

@@ -20,13 +20,7 @@ use Rattle.kinds.specs.declared.Kind.{Kind}
 use Rattle.kinds.specs.declared.Kind.TheVariants as kind
 use Rattle.plain_steps.proofs.Branches.{same_branch, row-length, row_at}
 use Rattle.plain_steps.proofs.Cases.{refuted_open, refuted_unknown, open_unknown, refuted_is}
-use Rattle.backjumping.specs.Finds as found
-use Rattle.decide.specs.Tells.{Sees, Tells, Ends}
-use Rattle.decide.specs.declared.Seen.{Seen}
-
--- what is seen, once the code's answer is known
-pub seen_as : (q : Query) (s : Facts) (v v' : Seen) → Sees q s v → v ≡ v' → Sees q s v'
-seen_as q s v v' h e = subst (Sees q s) e h
+use Rattle.decide.specs.Tells.{Tells, Ends}
 
 pub fewer_left : (k t : ℕ) → (k ≡ 0 → ⊥) → k ≡ t → k - 1 < t
 fewer_left k t ne e = omega arith
@@ -57,9 +51,6 @@ module _ (q : Query) (s : Facts) where
 
     pub ends_nothing : Ends q s kind.Unknown w
     ends_nothing = record { tells = tells_nothing; shows = λ e. absurd (open_unknown (sym e)) }
-
-    pub ends_found : (k : Kind) → found.Tells q s k w → Ends q s k w
-    ends_found k told = record { tells = record { refuted = told.refuted; has = λ e. (told.has e).0 }; shows = λ e. (told.has e).1 }
 
     pub ends_as : (s' : Facts) (k : Kind) → Ends q s' k w → Tells q s k → Ends q s k w
     ends_as s' k ended told = record { tells = told; shows = ended.shows }

@@ -1,12 +1,16 @@
 -- The reader of a text of lines, character by character. Assumes nothing.
-use Prim.Native.Nat.{ℕ, suc, ◌+◌, ◌-◌, ◌*◌, ◌≤◌, ◌<◌}
+use Prim.Native.Nat.{ℕ, ◌+◌, ◌-◌, ◌*◌, ◌≤◌, ◌<◌}
 use native.Mathlib.Omega.{arith}
 use native.Mathlib.Numerals.{add-one}
 use mathlib.Core.Path.{◌≡◌, refl, sym, ap, subst, ◌∙◌}
-use mathlib.Core.Bool.{Bool, true, false, not, false≢true}
+use mathlib.Core.Bool.{Bool, true, false, cond, not, false≢true}
 use mathlib.Core.List.{List, [], ◌∷◌, ◌++◌, append_assoc, append-nil}
 use mathlib.Core.Option.{Option, none, some, Option-elim}
-use lib.ListN.{length, get_or, drop, drop_of_length-le}
+use Rattle.std.specs.Prelude.{◌&&◌}
+use Rattle.std.specs.Cmp.Lexicographic.{pointwise}
+use Rattle.std.specs.List.{filter}
+use Rattle.std.proofs.lemmas.Bool.Decides.{nat_tests}
+use lib.ListN.{length, get_or, take, drop, drop_of_length-le}
 use lib.Seq.{drop-cons}
 use lib.Dec.{eqb, leb}
 use borrow.Author.Tests.{lt-ltb, le-ltb, lt-leb, le-leb, leb-true, ne_eqb, eq-eqb}
@@ -189,40 +193,30 @@ pub place_as : {before text after : List ℕ} {at to place next value i : ℕ} {
 place_as {before} {text} {after} {at} {to} {place} {next} {value} {i} {begun} e s =
     subst (λ (x : ℕ). Scanned before at text after to x value begun i) e s
 
--- the newlines of a text, from i on
-module _ (text : List ℕ) (i : ℕ) where
-  pub newline_next : i < length text → newlines (drop i text) ≡ newline_in (get_or text i 0) + newlines (drop (i + 1) text)
-  unfolding newlines
-  newline_next h = ap newlines (drop-cons text i 0 h ∙ ap (λ (k : ℕ). get_or text i 0 ∷ drop k text) (sym (add-one i)))
+-- the newlines that a filter keeps
+kept_first : (c : ℕ) (kept : List ℕ) (n : ℕ) → length kept ≡ n → (t : Bool) → length (cond t (c ∷ kept) kept) ≡ cond t 1 0 + n
+kept_first c kept n h true = omega arith
+kept_first c kept n h false = omega arith
 
-  pub newline_end : length text ≤ i → newlines (drop i text) ≡ 0
-  unfolding newlines
-  newline_end h = ap newlines (drop_of_length-le text {i = i} h)
+pub newlines_kept : (text : List ℕ) → length (filter (λ (c : ℕ). eqb c 10) text) ≡ newlines text
+unfolding newlines newline_in
+newlines_kept [] = refl
+newlines_kept (c ∷ cs) = kept_first c (filter (λ (d : ℕ). eqb d 10) cs) (newlines cs) (newlines_kept cs) (eqb c 10)
 
--- a word, from i on
-module _ (word bytes : List ℕ) (i : ℕ) where
-  pub begins_end : length word ≤ i → begins (drop i word) (drop i bytes) ≡ true
-  unfolding begins
-  begins_end h = ap (λ (w : List ℕ). begins w (drop i bytes)) (drop_of_length-le word {i = i} h)
+-- a word, by the library's test
+eqb_turned : (a b : ℕ) → eqb a b ≡ eqb b a
+eqb_turned a b = grind (arith, nat_tests)
 
-  module _ (h : i < length word) where
-    pub begins_short : length bytes ≤ i → begins (drop i word) (drop i bytes) ≡ false
-    unfolding begins
-    begins_short l = ap (λ (w : List ℕ). begins w (drop i bytes)) (drop-cons word i 0 h) ∙ ap (begins (get_or word i 0 ∷ drop (suc i) word)) (drop_of_length-le bytes {i = i} l)
+both_same : (a b c d : Bool) → a ≡ b → c ≡ d → (a && c) ≡ (b and d)
+unfolding ◌and◌
+both_same true b c d e f = f ∙ ap (λ (t : Bool). t and d) e
+both_same false b c d e f = ap (λ (t : Bool). t and d) e
 
-    begins_both : i < length bytes → begins (drop i word) (drop i bytes) ≡ (eqb (get_or bytes i 0) (get_or word i 0) and begins (drop (i + 1) word) (drop (i + 1) bytes))
-    unfolding begins
-    begins_both l =
-        ap (λ (w : List ℕ). begins w (drop i bytes)) (drop-cons word i 0 h ∙ ap (λ (k : ℕ). get_or word i 0 ∷ drop k word) (sym (add-one i)))
-        ∙ ap (begins (get_or word i 0 ∷ drop (i + 1) word)) (drop-cons bytes i 0 l ∙ ap (λ (k : ℕ). get_or bytes i 0 ∷ drop k bytes) (sym (add-one i)))
-
-    pub begins_other : i < length bytes → (get_or bytes i 0 ≡ get_or word i 0 → ⊥) → begins (drop i word) (drop i bytes) ≡ false
-    unfolding ◌and◌
-    begins_other l e = begins_both l ∙ rw (ne_eqb _ _ e) refl
-
-    pub begins-next : i < length bytes → get_or bytes i 0 ≡ get_or word i 0 → begins (drop i word) (drop i bytes) ≡ begins (drop (i + 1) word) (drop (i + 1) bytes)
-    unfolding ◌and◌
-    begins-next l e = begins_both l ∙ rw (eq-eqb _ _ e) refl
+pub begins_with : (word bytes : List ℕ) → pointwise eqb word (take (length word) bytes) ≡ begins word bytes
+unfolding begins
+begins_with [] bytes = refl
+begins_with (w ∷ ws) [] = refl
+begins_with (w ∷ ws) (b ∷ bytes) = both_same (eqb w b) (eqb b w) _ _ (eqb_turned w b) (begins_with ws bytes)
 
 pub begins_long : (word bytes : List ℕ) → begins word bytes ≡ true → length word ≤ length bytes
 unfolding begins

@@ -6,28 +6,11 @@ ghost use Rattle.text.specs.Text.{ascii, is_digit};
 ghost use Rattle.decimal_lines.specs.DecimalLines.{begins, ends_number, next_place, is_between, numbers_from, newline_in, newlines};
 ghost use Rattle.decimal_lines.specs.Puts.{Puts};
 
-// A byte as a wider number.
-fn wide(x: u8) -> usize
-    ensures { (result ≡ x) × (result < 256) }
-{
-    x as usize
-}
-
 // The bytes begin with this word.
 pub fn begins(bytes: &[u8], word: &[u8]) -> bool
     ensures { result ≡ begins word.now bytes.now }
 {
-    let mut i: usize = 0;
-    while i < word.len() {
-        if bytes.len() <= i {
-            return false;
-        }
-        if bytes[i] != word[i] {
-            return false;
-        }
-        i += 1;
-    }
-    true
+    bytes.starts_with(word)
 }
 
 // A text begins as a clash line does, with the number 9.
@@ -40,10 +23,7 @@ pub fn begins_clash(text: &[u8]) -> bool
 fn is_digit(c: usize) -> bool
     ensures { result ≡ is_digit c }
 {
-    if c < 48 {
-        return false;
-    }
-    c <= 57
+    48 <= c && c <= 57
 }
 
 // The character ends a number that has digits: a blank, or the newline of a line.
@@ -73,10 +53,7 @@ fn next_place(place: usize) -> usize
 fn is_between(place: usize, begun: bool) -> bool
     ensures { result ≡ is_between place begun }
 {
-    if begun {
-        return false;
-    }
-    place == 0
+    !begun && place == 0
 }
 
 // The numbers of the lines of a text, a byte each; 0 where it is no text of lines.
@@ -88,16 +65,14 @@ pub fn put_numbers(buffer: &mut [u8], at: usize, text: &[u8]) -> usize
     let mut place: usize = 0;
     let mut value: usize = 0;
     let mut begun = false;
-    let mut i: usize = 0;
-    while i < text.len() {
-        let c = wide(text[i]);
+    for byte in text {
+        let c = usize::from(*byte);
         if is_digit(c) {
             value = 10 * value + (c - 48);
             if 255 < value {
                 return 0;
             }
             begun = true;
-            i += 1;
             continue;
         }
         if !ends_number(place, begun, c) {
@@ -107,7 +82,6 @@ pub fn put_numbers(buffer: &mut [u8], at: usize, text: &[u8]) -> usize
         place = next_place(place);
         value = 0;
         begun = false;
-        i += 1;
     }
     if !is_between(place, begun) {
         return 0;
@@ -115,25 +89,9 @@ pub fn put_numbers(buffer: &mut [u8], at: usize, text: &[u8]) -> usize
     to
 }
 
-// 1 for a newline, 0 for any other character.
-fn newline(c: u8) -> usize
-    ensures { (result ≡ newline_in c) × (result ≤ 1) }
-{
-    if c == 10 {
-        return 1;
-    }
-    0
-}
-
 // How many newlines a text has.
 pub fn count_newlines(text: &[u8]) -> usize
     ensures { result ≡ newlines text.now }
 {
-    let mut count: usize = 0;
-    let mut i: usize = 0;
-    while i < text.len() {
-        count += newline(text[i]);
-        i += 1;
-    }
-    count
+    text.iter().filter(|c| **c == b'\n').count()
 }

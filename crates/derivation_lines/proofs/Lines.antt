@@ -5,11 +5,12 @@ use mathlib.Core.Path.{◌≡◌, refl, sym, ap, ◌∙◌}
 use mathlib.Core.Bool.{Bool, true, false, not, ◌&&◌}
 use mathlib.Core.List.{List, [], ◌∷◌}
 use mathlib.Core.Option.{none, some}
-use lib.ListN.{length, get_or, drop}
-use lib.Seq.{get_or-drop}
+use lib.ListN.{length, get_or, take, drop}
+use lib.Seq.{get_or-drop, drop-cons}
+use lib.Pointwise.{pointwise}
 use lib.Dec.{eqb, ltb, leb}
-use borrow.Author.Tests.{ne_eqb, lt-ltb, le-ltb, leb-true, leb-false, eqb-true, ltb-false}
-use Rattle.logic.specs.Search.{◌and◌, ◌or◌, at}
+use borrow.Author.Tests.{eq-eqb, ne_eqb, lt-ltb, le-ltb, leb-true, leb-false, eqb-true, ltb-false}
+use Rattle.logic.specs.Search.{◌or◌, at}
 use Rattle.logic.specs.Facts.{Line, line}
 use Rattle.logic.specs.Derivation.{lines_from, lines_in}
 use Rattle.rows.proofs.Selections.{and_four}
@@ -80,17 +81,40 @@ line_within bytes count i l s h = below (leb count i) refl
 
 -- The four numbers of a join line
 
+and_all : (a b c d : Bool) → a && (b && (c && (d && true))) ≡ ((a && b) && c) && d
+and_all true true true true = refl
+and_all true true true false = refl
+and_all true true false d = refl
+and_all true false c d = refl
+and_all false b c d = refl
+
+taken : (xs : List ℕ) (p : ℕ) → p + 4 ≤ length xs → take 4 (drop p xs) ≡ get_or xs p 0 ∷ get_or xs (p + 1) 0 ∷ get_or xs (p + 2) 0 ∷ get_or xs (p + 3) 0 ∷ []
+taken xs p h =
+    rw (drop-cons xs p 0 (omega (arith, h)), drop-cons xs (suc p) 0 (omega (arith, h)), drop-cons xs (suc (suc p)) 0 (omega (arith, h)), drop-cons xs (suc (suc (suc p))) 0 (omega (arith, h)))
+    (let e : suc p ≡ p + 1 = omega arith in
+    let f : suc (suc p) ≡ p + 2 = omega arith in
+    let g : suc (suc (suc p)) ≡ p + 3 = omega arith in
+    rw (g, f, e) refl)
+
+four_bytes : (xs : List ℕ) (p a b c d : ℕ) → p + 4 ≤ length xs →
+    pointwise eqb (take 4 (drop p xs)) (a ∷ b ∷ c ∷ d ∷ []) ≡ ((eqb (get_or xs p 0) a && eqb (get_or xs (p + 1) 0) b) && eqb (get_or xs (p + 2) 0) c) && eqb (get_or xs (p + 3) 0) d
+four_bytes xs p a b c d h =
+    ap (λ (ys : List ℕ). pointwise eqb ys (a ∷ b ∷ c ∷ d ∷ [])) (taken xs p h)
+    ∙ and_all (eqb (get_or xs p 0) a) (eqb (get_or xs (p + 1) 0) b) (eqb (get_or xs (p + 2) 0) c) (eqb (get_or xs (p + 3) 0) d)
+
 module _ (bytes : List ℕ) (count i kept replaced : ℕ) (s : Shaped bytes count) where
   pub join_past : count ≤ i → false ≡ is_line (line_at bytes i) (line 10 kept replaced 0)
   unfolding is_line
   join_past h = sym (rw (line_past bytes count i s h) refl)
 
-  pub join_there : i < count → ((eqb (get_or bytes (4 * i + 2) 0) 10 && eqb (get_or bytes (4 * i + 2 + 1) 0) kept) && eqb (get_or bytes (4 * i + 2 + 2) 0)
-      replaced) && eqb (get_or bytes (4 * i + 2 + 3) 0) 0 ≡ is_line (line_at bytes i) (line 10 kept replaced 0)
+  pub join_there : (p m : ℕ) → p ≡ 4 * i + 2 → m ≡ 4 → i < count →
+      pointwise eqb (take m (drop p bytes)) (10 ∷ kept ∷ replaced ∷ 0 ∷ []) ≡ is_line (line_at bytes i) (line 10 kept replaced 0)
   unfolding is_line same_line
-  join_there h =
-      and_four (eqb (get_or bytes (4 * i + 2) 0) 10) (eqb (get_or bytes (4 * i + 2 + 1) 0) kept) (eqb (get_or bytes (4 * i + 2 + 2) 0) replaced) (eqb (get_or bytes (4 * i + 2 + 3) 0) 0)
-      ∙ sym (rw (line_there bytes count i s h) refl)
+  join_there p m e f h =
+      rw (e, f)
+      (four_bytes bytes (4 * i + 2) 10 kept replaced 0 (omega (arith, s.long, h))
+      ∙ and_four (eqb (get_or bytes (4 * i + 2) 0) 10) (eqb (get_or bytes (4 * i + 2 + 1) 0) kept) (eqb (get_or bytes (4 * i + 2 + 2) 0) replaced) (eqb (get_or bytes (4 * i + 2 + 3) 0) 0)
+      ∙ sym (rw (line_there bytes count i s h) refl))
 
 -- The shape
 
@@ -99,7 +123,7 @@ module _ (bytes : List ℕ) where
   unfolding shapely misshapen ◌or◌
   shape_short h = sym (rw (ne_eqb (length bytes) (2 + 4 * count_in bytes) (λ e. omega arith)) refl)
 
-  pub shape_is : (c : ℕ) → c ≡ count_in bytes → eqb (length bytes) (2 + 4 * c) && leb c 16000 ≡ shapely bytes
+  shape_is : (c : ℕ) → c ≡ count_in bytes → eqb (length bytes) (2 + 4 * c) && leb c 16000 ≡ shapely bytes
   unfolding shapely misshapen ◌or◌
   shape_is c e = ap (λ (k : ℕ). eqb (length bytes) (2 + 4 * k) && leb k 16000) e
       ∙ table (eqb (length bytes) (2 + 4 * count_in bytes)) (leb (count_in bytes) 16000) (ltb 16000 (count_in bytes)) (flip (count_in bytes))
@@ -114,6 +138,13 @@ module _ (bytes : List ℕ) where
       table : (a b d : Bool) → b ≡ not d → a && b ≡ not (not a or d)
       table true b d h = h
       table false b d h = refl
+
+  -- by the count as it is read: the length first, and then the limit
+  pub shape_bound : (c : ℕ) → c ≡ count_in bytes → length bytes ≡ 2 + 4 * c → leb c 16000 ≡ shapely bytes
+  shape_bound c e h = sym (ap (λ (b : Bool). b && leb c 16000) (eq-eqb (length bytes) (2 + 4 * c) h)) ∙ shape_is c e
+
+  pub shape_other : (c : ℕ) → c ≡ count_in bytes → (length bytes ≡ 2 + 4 * c → ⊥) → eqb (length bytes) (2 + 4 * c) ≡ shapely bytes
+  shape_other c e n = ne_eqb _ _ n ∙ sym (ap (λ (b : Bool). b && leb c 16000) (ne_eqb (length bytes) (2 + 4 * c) n)) ∙ shape_is c e
 
   pub shaped : shapely bytes ≡ true → (c : ℕ) → c ≡ count_in bytes → Shaped bytes c
   unfolding shapely misshapen ◌or◌

@@ -1,8 +1,9 @@
 -- What is found wrong, one line more, and at the end of the lines.
 use Prim.Native.Nat.{ℕ, suc, ◌+◌, ◌*◌, ◌≤◌, ◌<◌}
+use native.Mathlib.Omega.{arith}
 use native.Mathlib.Numerals.{add-one}
 use mathlib.Core.Path.{◌≡◌, refl, sym, ap, ◌∙◌}
-use mathlib.Core.Bool.{true, false}
+use Rattle.std.specs.Prelude.{Ok, Err, Some, None}
 use mathlib.Core.List.{List, [], ◌∷◌}
 use mathlib.Core.Option.{none, some}
 use lib.ListN.{drop}
@@ -11,9 +12,8 @@ use Rattle.logic.specs.Facts.{Line}
 use Rattle.logic.specs.Derivation.{lines_in}
 use Rattle.checking.specs.Fitting.{Goal, start_goal, step, short_of, wrong_from, wrong_line}
 use Rattle.checking.proofs.Judged.{wrong_step, wrong_here}
-use Rattle.derivation_lines.specs.declared.Judged.{Judged}
 use Rattle.derivation_lines.specs.Lines.{Shaped, line_at}
-use Rattle.derivation_lines.specs.Judging.{wrong_at, resumed, JudgesGoal, Concludes}
+use Rattle.derivation_lines.specs.Judging.{Judged, wrong_at, resumed, JudgesGoal, Concludes}
 use Rattle.derivation_lines.proofs.Lines.{drop-some, drop-none, line_from, line_there, line_past}
 
 module _ (q : Query) (bytes : List ℕ) (i : ℕ) where
@@ -34,25 +34,26 @@ module _ (q : Query) (bytes : List ℕ) (i : ℕ) where
 
 -- The end: the lines that were read are those of the start's goal
 
-module _ (count : ℕ) (r : Judged) where
-  whole : (q : Query) (bytes : List ℕ) → JudgesGoal q bytes count (start_goal q) 0 r → wrong_line q (lines_in bytes) ≡ resumed q bytes [] r
+module _ (count : ℕ) where
+  whole : (r : Judged) (q : Query) (bytes : List ℕ) → JudgesGoal q bytes count (start_goal q) 0 r → wrong_line q (lines_in bytes) ≡ resumed q bytes [] r
   unfolding wrong_line wrong_at
-  whole q bytes h = h.judges []
+  whole r q bytes h = h.judges []
 
-  pub conclude_wrong : r.fits ≡ false → Concludes count r r.at
+  pub conclude_wrong : (wrong : ℕ) → Concludes count (Err wrong) (Some wrong)
   unfolding resumed
-  conclude_wrong f = record { concludes = λ q bytes shape h. sym (whole q bytes h ∙ rw f refl) }
+  conclude_wrong wrong = record { concludes = λ q bytes shape h. sym (whole (Err wrong) q bytes h); numbered = λ q bytes h. h.numbered }
 
-  pub conclude_more : r.fits ≡ true → r.at < count → Concludes count r (r.at + 1)
+  pub conclude_more : (read : ℕ) → read < count → Concludes count (Ok read) (Some (read + 1))
   unfolding resumed step
-  conclude_more f l =
+  conclude_more read l =
       record {
-        concludes = λ q bytes shape h. sym (whole q bytes h ∙ rw f (wrong_unfit q bytes r.at [] (line_from bytes (4 * r.at + 2)) (line_there bytes count r.at shape l) refl));
+        concludes = λ q bytes shape h. sym (whole (Ok read) q bytes h ∙ wrong_unfit q bytes read [] (line_from bytes (4 * read + 2)) (line_there bytes count read shape l) refl);
+        numbered = λ q bytes h. omega arith;
       }
 
-  past_zero : (q : Query) (bytes : List ℕ) → Shaped bytes count → r.fits ≡ true → count ≤ r.at → resumed q bytes [] r ≡ 0
+  past_zero : (q : Query) (bytes : List ℕ) (read : ℕ) → Shaped bytes count → count ≤ read → resumed q bytes [] (Ok read) ≡ 0
   unfolding resumed wrong_at wrong_from short_of line_at
-  past_zero q bytes shape f l = rw (f, drop-none (lines_in bytes) r.at (line_past bytes count r.at shape l)) refl
+  past_zero q bytes read shape l = rw (drop-none (lines_in bytes) read (line_past bytes count read shape l)) refl
 
-  pub conclude_all : r.fits ≡ true → count ≤ r.at → Concludes count r 0
-  conclude_all f l = record { concludes = λ q bytes shape h. sym (whole q bytes h ∙ past_zero q bytes shape f l) }
+  pub conclude_all : (read : ℕ) → count ≤ read → Concludes count (Ok read) None
+  conclude_all read l = record { concludes = λ q bytes shape h. sym (whole (Ok read) q bytes h ∙ past_zero q bytes read shape l); numbered = λ q bytes h. tt }

@@ -7,13 +7,6 @@ ghost use Rattle.checking.specs.CheckCall.{count_in};
 ghost use Rattle.derivation_lines.specs.Lines.{line_at, is_line, shapely, Shaped};
 ghost use Rattle.derivation_lines.specs.Judging.{Concludes};
 
-// How far lines fit: `at` of them were read and all fit; or the first wrong line has number `at`.
-#[derive(Drop)]
-pub struct Judged {
-    pub fits: bool,
-    pub at: usize,
-}
-
 // Line `at`, from 0, is there and is the join line 10, kept, replaced, 0.
 pub fn is_join(derivation: &[u8], count: usize, at: usize, kept: u8, replaced: u8) -> bool
     requires { Shaped derivation.now count }
@@ -23,10 +16,7 @@ pub fn is_join(derivation: &[u8], count: usize, at: usize, kept: u8, replaced: u
         return false;
     }
     let place = 4 * at + 2;
-    (derivation[place] == 10)
-        & (derivation[place + 1] == kept)
-        & (derivation[place + 2] == replaced)
-        & (derivation[place + 3] == 0)
+    derivation[place..place + 4] == [10, kept, replaced, 0]
 }
 
 // "Line count in two bytes, high byte first"
@@ -48,20 +38,18 @@ pub fn is_shaped(derivation: &[u8]) -> bool
         return false;
     }
     let count = count_of(derivation);
-    (length == 2 + 4 * count) & (count <= 16000)
+    length == 2 + 4 * count && count <= 16000
 }
 
-// The first wrong line's number, 0 where there is none, by how far the lines fit the goal of the start: none may follow them.
-pub fn first_wrong(count: usize, judged: Judged) -> usize
+// The first wrong line's number, by how far the lines fit the goal of the start: so many were read and all fit, and none may follow them, or
+// the one of this number is wrong.
+pub fn first_wrong(count: usize, judged: Result<usize, usize>) -> Option<usize>
     requires { count ≤ 16000 }
     ensures { Concludes count judged result }
 {
-    let at = judged.at;
-    if !judged.fits {
-        return at;
+    match judged {
+        Err(wrong) => Some(wrong),
+        Ok(read) if read < count => Some(read + 1),
+        Ok(_) => None,
     }
-    if at < count {
-        return at + 1;
-    }
-    0
 }

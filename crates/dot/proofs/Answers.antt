@@ -4,6 +4,7 @@ use native.Mathlib.Omega.{arith}
 use mathlib.Core.Path.{◌≡◌, refl, ap, ◌∙◌, subst}
 use mathlib.Core.Bool.{true, false}
 use mathlib.Core.List.{List}
+use Rattle.std.specs.Prelude.{Ok, Err}
 use lib.ListN.{length, replicate, length-replicate}
 use Rattle.logic.specs.Shown.{well_formed}
 use Rattle.text.specs.Text.{Writes}
@@ -11,17 +12,18 @@ use Rattle.text.proofs.Writing.{writes_blank, writes_length}
 use Rattle.drawing.specs.Text.{text}
 use Rattle.drawing.specs.Call.{dot_call, written}
 use Rattle.drawing.proofs.Answers.{call_unformed, call_short, call_written}
-use Rattle.dot.specs.declared.DotAnswer.TheVariants as answer
+use Rattle.refusals.specs.Numbers.{refusal_at}
+use Rattle.refusals.specs.declared.Fault.TheVariants as fault
 use Rattle.dot.specs.Promise.{Does}
 
 module _ (report bytes : List ℕ) (room : ℕ) where
-  pub answer_unformed : well_formed 1 report ≡ false → bytes ≡ replicate room 0 → Does (dot_call report room) (answer.Refused 13 0) bytes
+  pub answer_unformed : well_formed 1 report ≡ false → bytes ≡ replicate room 0 → Does (dot_call report room) (Err (refusal_at fault.HeapReport 0)) bytes
   answer_unformed h e = rw (call_unformed report room h) (record { answers = refl; leaves = e })
 
-  pub answer_short : well_formed 1 report ≡ true → room < length (text report) → bytes ≡ replicate room 0 → Does (dot_call report room) (answer.Refused 14 0) bytes
+  pub answer_short : well_formed 1 report ≡ true → room < length (text report) → bytes ≡ replicate room 0 → Does (dot_call report room) (Err (refusal_at fault.TextBuffer 0)) bytes
   answer_short h l e = rw (call_short report room h l) (record { answers = refl; leaves = e })
 
-  pub answer-written : (r : ℕ) → well_formed 1 report ≡ true → length (text report) ≤ room → Writes (replicate room 0) 0 (text report) bytes r → Does (dot_call report room) (answer.Written r) bytes
+  pub answer-written : (r : ℕ) → well_formed 1 report ≡ true → length (text report) ≤ room → Writes (replicate room 0) 0 (text report) bytes r → Does (dot_call report room) (Ok r) bytes
   answer-written r h l w =
       let e = writes_blank w l in
       rw (call_written report room h l) (record { answers = ap written e.1; leaves = e.0 })

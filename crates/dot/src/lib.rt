@@ -7,12 +7,7 @@ ghost use Rattle.drawing.specs.Text as drawing;
 ghost use Rattle.drawing.specs.Call.{dot_call};
 ghost use Rattle.dot.specs.Promise.{Does};
 
-// What the call answers: the text's length, or a refusal's number and place.
-#[derive(Drop)]
-pub enum DotAnswer {
-    Written(usize),
-    Refused(usize, usize),
-}
+use refusals::{Fault, Refusal};
 
 // The whole text, with its closing line.
 fn draw(report: &[u8], out: &mut [u8]) -> usize
@@ -23,17 +18,17 @@ fn draw(report: &[u8], out: &mut [u8]) -> usize
 }
 
 // The text of a report, its length and zeros past it; or a refusal, and zeros: "13 a report not well formed, then 14 buffer too short"
-pub fn dot(report: &[u8], text: &mut [u8]) -> DotAnswer
+pub fn dot(report: &[u8], text: &mut [u8]) -> Result<usize, Refusal>
     ensures { Does (dot_call report.now (length text.old)) result text.new }
 {
     lent::clear(text);
     if !report_reader::is_well_formed(report) {
-        return DotAnswer::Refused(13, 0);
+        return Err(Fault::HeapReport.at(0));
     }
     let length = draw(report, text);
     if text.len() < length {
         lent::clear(text);
-        return DotAnswer::Refused(14, 0);
+        return Err(Fault::TextBuffer.at(0));
     }
-    DotAnswer::Written(length)
+    Ok(length)
 }

@@ -81,25 +81,21 @@ pub fn draw_nodes(out: &mut [u8], fill: usize, report: &[u8]) -> usize
 {
     let m = report_reader::size_in(report);
     let mut to = fill;
-    let mut v: usize = 1;
-    while v <= m {
+    for v in 1..m + 1 {
         to = draw_node(out, to, report, Node(v));
-        v += 1;
     }
     to
 }
 
-// "then an arrow per link .. ascending"
+// "then an arrow per link .. ascending" (One loop over a closure for both would state each line's clause again, and is no plainer.)
 pub fn draw_arrows(out: &mut [u8], fill: usize, report: &[u8]) -> usize
     requires { fill + length (flat_map (arrow_line report.now) (from (size_in report.now) 1)) ≤ 1000 }
     ensures { Writes out.old fill (flat_map (arrow_line report.now) (from (size_in report.now) 1)) out.new result }
 {
     let m = report_reader::size_in(report);
     let mut to = fill;
-    let mut v: usize = 1;
-    while v <= m {
+    for v in 1..m + 1 {
         to = draw_arrow(out, to, report, Node(v));
-        v += 1;
     }
     to
 }

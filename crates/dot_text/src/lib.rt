@@ -42,10 +42,10 @@ pub fn draw<'a, 'b>(out: &'a mut [u8], report: &'b [u8], end: &'b [u8]) -> usize
     requires { length (head report.now) + length (nodes report.now) + length (arrows report.now) + length end.now ≤ 1000 }
     ensures { Writes out.old 0 (head report.now ++ (nodes report.now ++ (arrows report.now ++ end.now))) out.new result }
 {
-    let mut w = dot_writer::new(out, 0);
+    let mut w = Writer::new(out, 0);
     put_head(&mut w, report);
     put_nodes(&mut w, report);
     put_arrows(&mut w, report);
-    dot_writer::append_bytes(&mut w, end);
-    dot_writer::filled(w)
+    w.append_bytes(end);
+    w.filled()
 }

@@ -1,13 +1,12 @@
 -- The bytes of an entry, by the kind of its section, and the lowest one that meets a refusal.
 use Rattle.std.specs.Prelude.{ℕ, ◌+◌, ◌≡◌, Bool, true, ◌&&◌, ◌||◌, List, [], ◌∷◌, get_or, drop, eqb}
+use Rattle.std.specs.Prelude as Found
 use Rattle.std.proofs.Math.Option.{Option, none, some}
 use Rattle.logic.specs.Search.{from, keep, flat_map}
 use Rattle.logic.specs.Query.{Role, entry_role, sign_role, term_role, number_role, count_role, role_fault}
 use Rattle.byte_tests.specs.Meets.{counted, meets}
 use Rattle.entries.specs.declared.Kind.{Kind}
 use Rattle.entries.specs.declared.Kind.TheVariants as kind
-use Rattle.entries.specs.declared.Found.{Found}
-use Rattle.entries.specs.declared.Found.TheVariants as found
 
 -- the bytes of an entry
 abbrev pub width_of : Kind → ℕ
@@ -45,9 +44,9 @@ unfoldable pub section_fault : ℕ → Kind → ℕ → ℕ → ℕ → List ℕ
 section_fault k kind n at count bytes = role_fault k at (flat_map (roles_at kind n) (from count 1)) (drop at bytes)
 
 -- the place that was found
-abbrev pub found_of : Found → Option ℕ
-found_of (found.At place) = some place
-found_of found.Nothing = none
+abbrev pub found_of : Found.Option ℕ → Option ℕ
+found_of (Found.Some place) = some place
+found_of Found.None = none
 
 -- the bytes of a boolean literal, and of a literal with two numbers from `left` on, are allowed
 abbrev pub flag_allowed : ℕ → List ℕ → ℕ → ℕ → Bool

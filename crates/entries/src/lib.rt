@@ -4,10 +4,12 @@
 ghost use Rattle.std.specs.Prelude.{◌≡◌, ◌+◌, ◌*◌, ◌≤◌, ◌<◌, length, get_or, drop};
 ghost use Rattle.logic.specs.Search.{or_else};
 ghost use Rattle.logic.specs.Query.{entry_role, sign_role, term_role, role_fault};
+ghost use Rattle.refusals.specs.Numbers.{number_of};
 ghost use Rattle.byte_tests.specs.Meets.{counted_role};
 ghost use Rattle.entries.specs.Entries.{width_of, roles_at, fault_at, section_fault, found_of, concerned, flag_allowed, literal_allowed, Passes};
 ghost use Rattle.entries.specs.Links.{linked_terms, linked_pairs, linked_width, link_at, links_from};
 
+use refusals::Fault;
 use rows::Term;
 
 // What the bytes of a section's entries are held to: equalities and reachability literals are pairs of terms. With three links (02, R-11) a
@@ -29,13 +31,6 @@ pub enum Linked {
     Pairs,
 }
 
-// A place that was looked for.
-#[derive(Drop)]
-pub enum Found {
-    At(usize),
-    Nothing,
-}
-
 // The byte at a place of the query.
 pub fn byte_at(query: &[u8], place: usize) -> usize
     requires { place < length query.now }
@@ -44,66 +39,86 @@ pub fn byte_at(query: &[u8], place: usize) -> usize
     query[place] as usize
 }
 
-// The lowest byte of an entry that meets refusal k: of a term, of a boolean literal with its number at `left`, and of a literal with two
-// numbers from `left` on.
-fn term_fault(k: usize, t: Term, query: &[u8], at: usize) -> Found
-    requires { at + 1 ≤ length query.now }
-    ensures { found_of result ≡ fault_at (entry_role t.0) k query.now at }
-{
-    if byte_tests::entry_refused(k, t.0, byte_at(query, at)) {
-        return Found::At(at);
-    }
-    Found::Nothing
+// A number from 1 to `most`, and what is wrong with any other.
+#[derive(Clone, Copy)]
+struct Numbers {
+    own: Fault,
+    most: usize,
 }
 
-fn flag_fault(k: usize, own: usize, most: usize, query: &[u8], at: usize, left: usize) -> Found
-    requires { (at < left) × (left + 1 ≤ length query.now) }
-    ensures { found_of result ≡ or_else (fault_at sign_role k query.now at) (fault_at (counted_role own most) k query.now left) }
+// The lowest byte of an entry that meets a refusal: of a term, of a boolean literal with its number at `left`, and of a literal with two
+// numbers from `left` on.
+fn term_fault(fault: Fault, t: Term, query: &[u8], at: usize) -> Option<usize>
+    requires { at + 1 ≤ length query.now }
+    ensures { found_of result ≡ fault_at (entry_role t.0) (number_of fault) query.now at }
 {
-    if byte_tests::sign_refused(k, byte_at(query, at)) {
-        return Found::At(at);
+    if byte_tests::entry_refused(fault, t.0, byte_at(query, at)) {
+        return Some(at);
     }
-    if byte_tests::number_refused(k, own, most, byte_at(query, left)) {
-        return Found::At(left);
+    None
+}
+
+fn flag_fault(fault: Fault, numbers: Numbers, query: &[u8], at: usize, left: usize) -> Option<usize>
+    requires { (at < left) × (left + 1 ≤ length query.now) }
+    ensures { found_of result ≡ or_else (fault_at sign_role (number_of fault) query.now at) (fault_at (counted_role (number_of numbers.own) numbers.most) (number_of fault) query.now left) }
+{
+    if byte_tests::sign_refused(fault, byte_at(query, at)) {
+        return Some(at);
     }
-    Found::Nothing
+    if byte_tests::number_refused(fault, numbers.own, numbers.most, byte_at(query, left)) {
+        return Some(left);
+    }
+    None
 }
 
 fn literal_fault(
-    k: usize,
-    own: usize,
-    most: usize,
+    fault: Fault,
+    numbers: Numbers,
     n: usize,
     query: &[u8],
     at: usize,
     left: usize,
-) -> Found
+) -> Option<usize>
     requires { (at < left) × (left + 2 ≤ length query.now) }
-    ensures { found_of result ≡ or_else (or_else (fault_at sign_role k query.now at) (fault_at (counted_role own most) k query.now left)) (fault_at (term_role n) k query.now (left + 1)) }
+    ensures { found_of result ≡ or_else (or_else (fault_at sign_role (number_of fault) query.now at) (fault_at (counted_role (number_of numbers.own) numbers.most) (number_of fault) query.now left)) (fault_at (term_role n) (number_of fault) query.now (left + 1)) }
 {
-    match flag_fault(k, own, most, query, at, left) {
-        Found::At(p) => return Found::At(p),
-        Found::Nothing => {}
+    if let Some(place) = flag_fault(fault, numbers, query, at, left) {
+        return Some(place);
     }
     let right = left + 1;
-    if byte_tests::number_refused(k, 7, n, byte_at(query, right)) {
-        return Found::At(right);
+    if byte_tests::number_refused(fault, Fault::TermNumber, n, byte_at(query, right)) {
+        return Some(right);
     }
-    Found::Nothing
+    None
 }
 
 // Entry i, by the kind of its section.
-fn entry_fault(k: usize, kind: Kind, n: usize, i: usize, query: &[u8], at: usize) -> Found
+fn entry_fault(
+    fault: Fault,
+    kind: Kind,
+    n: usize,
+    i: usize,
+    query: &[u8],
+    at: usize,
+) -> Option<usize>
     requires { at + width_of kind ≤ length query.now }
-    ensures { found_of result ≡ role_fault k at (roles_at kind n i) (drop at query.now) }
+    ensures { found_of result ≡ role_fault (number_of fault) at (roles_at kind n i) (drop at query.now) }
 {
+    let terms = Numbers {
+        own: Fault::TermNumber,
+        most: n,
+    };
+    let fields = Numbers {
+        own: Fault::FieldNumber,
+        most: 8,
+    };
     match kind {
-        Kind::Terms => term_fault(k, Term(i), query, at),
-        Kind::Pairs => literal_fault(k, 7, n, n, query, at, at + 1),
-        Kind::Fields => literal_fault(k, 8, 8, n, query, at, at + 1),
-        Kind::Booleans => flag_fault(k, 8, 8, query, at, at + 1),
-        Kind::LinkedTerms => term_fault(k, Term(i), query, at + 1),
-        Kind::LinkedPairs => literal_fault(k, 7, n, n, query, at, at + 2),
+        Kind::Terms => term_fault(fault, Term(i), query, at),
+        Kind::Pairs => literal_fault(fault, terms, n, query, at, at + 1),
+        Kind::Fields => literal_fault(fault, fields, n, query, at, at + 1),
+        Kind::Booleans => flag_fault(fault, fields, query, at, at + 1),
+        Kind::LinkedTerms => term_fault(fault, Term(i), query, at + 1),
+        Kind::LinkedPairs => literal_fault(fault, terms, n, query, at, at + 2),
     }
 }
 
@@ -121,40 +136,44 @@ pub fn width(kind: Kind) -> usize
     }
 }
 
-// Some byte of an entry is held to refusal k: where none is, a section need not be searched.
-fn concerned(kind: Kind, k: usize) -> bool
-    ensures { result ≡ concerned kind k }
+// Some byte of an entry is held to a refusal: where none is, a section need not be searched.
+fn concerned(kind: Kind, fault: Fault) -> bool
+    ensures { result ≡ concerned kind (number_of fault) }
 {
     match kind {
-        Kind::Terms => 5 == k,
-        Kind::Pairs => (6 == k) | (7 == k),
-        Kind::Fields => (6 == k) | (7 == k) | (8 == k),
-        Kind::Booleans => (6 == k) | (8 == k),
-        Kind::LinkedTerms => (0 == k) | (5 == k),
-        Kind::LinkedPairs => (0 == k) | (6 == k) | (7 == k),
+        Kind::Terms | Kind::LinkedTerms => fault == Fault::TermByte,
+        Kind::Pairs | Kind::LinkedPairs => (fault == Fault::Sign) | (fault == Fault::TermNumber),
+        Kind::Fields => (fault == Fault::Sign)
+            | (fault == Fault::TermNumber)
+            | (fault == Fault::FieldNumber),
+        Kind::Booleans => (fault == Fault::Sign) | (fault == Fault::FieldNumber),
     }
 }
 
-// The lowest byte that meets refusal k, among `count` entries at `at`.
-pub fn section_fault(k: usize, kind: Kind, n: usize, query: &[u8], at: usize, count: usize) -> Found
+// The lowest byte that meets a refusal, among `count` entries at `at`.
+pub fn section_fault(
+    fault: Fault,
+    kind: Kind,
+    n: usize,
+    query: &[u8],
+    at: usize,
+    count: usize,
+) -> Option<usize>
     requires { at + count * width_of kind ≤ length query.now }
-    ensures { found_of result ≡ section_fault k kind n at count query.now }
+    ensures { found_of result ≡ section_fault (number_of fault) kind n at count query.now }
 {
-    if !concerned(kind, k) {
-        return Found::Nothing;
+    if !concerned(kind, fault) {
+        return None;
     }
     let step = width(kind);
     let mut place = at;
-    let mut i: usize = 0;
-    while i < count {
-        match entry_fault(k, kind, n, i + 1, query, place) {
-            Found::At(p) => return Found::At(p),
-            Found::Nothing => {}
+    for i in 0..count {
+        if let Some(found) = entry_fault(fault, kind, n, i + 1, query, place) {
+            return Some(found);
         }
         place += step;
-        i += 1;
     }
-    Found::Nothing
+    None
 }
 
 // Every byte of an entry is allowed: of a boolean literal, of a literal with two numbers, and of any entry, by the kind of its section.
@@ -198,41 +217,39 @@ pub fn section_passes(kind: Kind, n: usize, query: &[u8], at: usize, count: usiz
 {
     let step = width(kind);
     let mut place = at;
-    let mut i: usize = 0;
-    while i < count {
+    for i in 0..count {
         if !entry_passes(kind, n, i + 1, query, place) {
             return false;
         }
         place += step;
-        i += 1;
     }
     true
 }
 
 // The link byte of an entry, where it may not stand there: of a term, and of a reachability literal.
-fn term_link_fault(query: &[u8], at: usize) -> Found
+fn term_link_fault(query: &[u8], at: usize) -> Option<usize>
     requires { at + 2 ≤ length query.now }
     ensures { found_of result ≡ link_at linked_terms query.now at }
 {
     let link = byte_at(query, at);
     if byte_tests::may_precede(link, byte_at(query, at + 1)) {
-        return Found::Nothing;
+        return None;
     }
-    Found::At(at)
+    Some(at)
 }
 
-fn pair_link_fault(query: &[u8], at: usize) -> Found
+fn pair_link_fault(query: &[u8], at: usize) -> Option<usize>
     requires { at + 4 ≤ length query.now }
     ensures { found_of result ≡ link_at linked_pairs query.now at }
 {
     let place = at + 1;
     if byte_tests::is_link(byte_at(query, place)) {
-        return Found::Nothing;
+        return None;
     }
-    Found::At(place)
+    Some(place)
 }
 
-fn entry_link_fault(linked: Linked, query: &[u8], at: usize) -> Found
+fn entry_link_fault(linked: Linked, query: &[u8], at: usize) -> Option<usize>
     requires { at + linked_width linked ≤ length query.now }
     ensures { found_of result ≡ link_at linked query.now at }
 {
@@ -252,20 +269,17 @@ fn linked_width(linked: Linked) -> usize
 }
 
 // "22 (the lowest such link byte)", among `count` entries at `at`.
-pub fn link_fault(linked: Linked, query: &[u8], at: usize, count: usize) -> Found
+pub fn link_fault(linked: Linked, query: &[u8], at: usize, count: usize) -> Option<usize>
     requires { at + count * linked_width linked ≤ length query.now }
     ensures { found_of result ≡ links_from linked query.now count at }
 {
     let step = linked_width(linked);
     let mut place = at;
-    let mut i: usize = 0;
-    while i < count {
-        match entry_link_fault(linked, query, place) {
-            Found::At(p) => return Found::At(p),
-            Found::Nothing => {}
+    for _ in 0..count {
+        if let Some(found) = entry_link_fault(linked, query, place) {
+            return Some(found);
         }
         place += step;
-        i += 1;
     }
-    Found::Nothing
+    None
 }

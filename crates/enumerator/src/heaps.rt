@@ -2,8 +2,10 @@
 // the literals if any heap does.
 ghost use Rattle.std.specs.Prelude.{◌<◌};
 
-use crate::literals::{Term, datum_at, is_link, literals_hold, node_of, section_at, successor};
-use crate::room::{Room, bit, byte, fill, is_same, put};
+use crate::literals::{
+    Section, Term, datum_at, is_link, literals_hold, node_of, section_at, successor,
+};
+use crate::room::{Room, bit, byte, fill, put};
 
 // The heap of m nodes with which the enumeration begins: every link and every variable is at node 1.
 fn first_heap(query: &Room, m: usize) -> Room
@@ -35,8 +37,7 @@ fn is_free(query: &Room, m: usize, at: usize) -> bool {
 fn next_heap(query: &Room, heap: &mut Room) -> bool {
     let m = byte(heap, 0);
     let last = m + 1 + byte(query, 0);
-    let mut at: usize = 1;
-    while at <= last {
+    for at in 1..last + 1 {
         if is_free(query, m, at) {
             let x = byte(heap, at);
             if x < m {
@@ -45,7 +46,6 @@ fn next_heap(query: &Room, heap: &mut Room) -> bool {
             }
             put(heap, at, 1);
         }
-        at += 1;
     }
     false
 }
@@ -54,9 +54,7 @@ fn next_heap(query: &Room, heap: &mut Room) -> bool {
 fn place_terms(query: &Room, heap: &mut Room) {
     let n = byte(query, 0);
     let m = byte(heap, 0);
-    let mut t: usize = 0;
-    while t < n {
-        t += 1;
+    for t in 1..n + 1 {
         if is_link(query, t) {
             let x = successor(heap, node_of(heap, Term(byte(query, t))));
             put(heap, m + 1 + t, x.0);
@@ -66,16 +64,14 @@ fn place_terms(query: &Room, heap: &mut Room) {
 
 // The data fields of plain literals are set.
 fn set_fields(query: &Room, heap: &mut Room) {
-    let section = section_at(query, 4);
+    let section = section_at(query, Section::Data);
     let count = byte(query, section);
-    let mut i: usize = 0;
-    while i < count {
+    for i in 0..count {
         let at = section + 1 + 3 * i;
         if byte(query, at) == 1 {
             let datum = datum_at(query, heap, at);
             put(heap, datum, byte(heap, datum) | bit(byte(query, at + 1)));
         }
-        i += 1;
     }
 }
 
@@ -92,8 +88,7 @@ fn some_heap(query: &Room, m: usize) -> bool
     requires { m < 256 }
 {
     let mut heap = first_heap(query, m);
-    let mut tried: usize = 0;
-    while tried < 65536 {
+    for _ in 0..65536 {
         complete(query, &mut heap);
         if literals_hold(query, &heap) {
             return true;
@@ -101,7 +96,6 @@ fn some_heap(query: &Room, m: usize) -> bool
         if !next_heap(query, &mut heap) {
             return false;
         }
-        tried += 1;
     }
     false
 }
@@ -109,14 +103,12 @@ fn some_heap(query: &Room, m: usize) -> bool
 // Some heap meets every literal: one node is tried for a query with no terms.
 pub fn is_satisfiable(query: &Room) -> bool {
     let n = byte(query, 0);
-    let mut m: usize = 1;
-    while m < n {
+    for m in 1..n {
         if some_heap(query, m) {
             return true;
         }
-        m += 1;
     }
-    some_heap(query, m)
+    some_heap(query, n.max(1))
 }
 
 // The report shows a heap that meets every literal: its successors and the nodes of its variables are nodes, and all the rest, counts and
@@ -128,8 +120,7 @@ pub fn is_shown(query: &Room, report: &Room) -> bool {
     }
     let mut heap = first_heap(query, m);
     let last = m + 1 + byte(query, 0);
-    let mut at: usize = 1;
-    while at <= last {
+    for at in 1..last + 1 {
         if is_free(query, m, at) {
             let x = byte(report, at);
             if (x == 0) | (m < x) {
@@ -137,8 +128,7 @@ pub fn is_shown(query: &Room, report: &Room) -> bool {
             }
             put(&mut heap, at, x);
         }
-        at += 1;
     }
     complete(query, &mut heap);
-    is_same(report, &heap) && literals_hold(query, &heap)
+    *report == heap && literals_hold(query, &heap)
 }

@@ -7,8 +7,16 @@ use crate::room::{Room, bit, byte};
 #[derive(Clone, Copy)]
 pub struct Term(pub usize);
 
-#[derive(Clone, Copy)]
+#[derive(Clone, Copy, PartialEq, Eq)]
 pub struct Node(pub usize);
+
+// The three sections of literals.
+#[derive(Clone, Copy)]
+pub enum Section {
+    Equalities,
+    Reachability,
+    Data,
+}
 
 // A term that is no variable and does not name nil is f of an earlier one.
 pub fn is_link(query: &Room, t: usize) -> bool {
@@ -17,18 +25,16 @@ pub fn is_link(query: &Room, t: usize) -> bool {
 }
 
 // The place of a section's count: literals have three bytes.
-pub fn section_at(query: &Room, section: usize) -> usize
+pub fn section_at(query: &Room, section: Section) -> usize
     ensures { result < 3000 }
 {
     let equalities = 1 + byte(query, 0);
-    if section == 2 {
-        return equalities;
-    }
     let reachability = equalities + 1 + 3 * byte(query, equalities);
-    if section == 3 {
-        return reachability;
+    match section {
+        Section::Equalities => equalities,
+        Section::Reachability => reachability,
+        Section::Data => reachability + 1 + 3 * byte(query, reachability),
     }
-    reachability + 1 + 3 * byte(query, reachability)
 }
 
 pub fn successor(heap: &Room, x: Node) -> Node {
@@ -55,44 +61,38 @@ pub fn datum_at(query: &Room, heap: &Room, at: usize) -> usize
 fn reaches(heap: &Room, a: Node, b: Node) -> bool {
     let m = byte(heap, 0);
     let mut x = a;
-    let mut steps: usize = 0;
-    while steps < m {
-        if x.0 == b.0 {
+    for _ in 0..m {
+        if x == b {
             return true;
         }
         x = successor(heap, x);
-        steps += 1;
     }
     false
 }
 
 // What the literal at a place says is so, its sign left aside.
-fn is_so(query: &Room, heap: &Room, section: usize, at: usize) -> bool
+fn is_so(query: &Room, heap: &Room, section: Section, at: usize) -> bool
     requires { at < 4000 }
 {
     let first = byte(query, at + 1);
-    if section >= 4 {
-        return byte(heap, datum_at(query, heap, at)) & bit(first) != 0;
-    }
     let a = node_of(heap, Term(first));
     let b = node_of(heap, Term(byte(query, at + 2)));
-    if section == 2 {
-        return a.0 == b.0;
+    match section {
+        Section::Equalities => a == b,
+        Section::Reachability => reaches(heap, a, b),
+        Section::Data => byte(heap, datum_at(query, heap, at)) & bit(first) != 0,
     }
-    reaches(heap, a, b)
 }
 
 // Every literal of a section holds.
-fn section_holds(query: &Room, heap: &Room, section: usize) -> bool {
+fn section_holds(query: &Room, heap: &Room, section: Section) -> bool {
     let from = section_at(query, section);
     let count = byte(query, from);
-    let mut i: usize = 0;
-    while i < count {
+    for i in 0..count {
         let at = from + 1 + 3 * i;
         if is_so(query, heap, section, at) != (byte(query, at) == 1) {
             return false;
         }
-        i += 1;
     }
     true
 }
@@ -100,16 +100,14 @@ fn section_holds(query: &Room, heap: &Room, section: usize) -> bool {
 // "All nil terms are one node and its link goes to itself" (02, R-3).
 fn nil_holds(query: &Room, heap: &Room) -> bool {
     let n = byte(query, 0);
-    let mut nil: usize = 0;
-    let mut t: usize = 0;
-    while t < n {
-        t += 1;
+    let mut nil: Option<Node> = None;
+    for t in 1..n + 1 {
         if byte(query, t) == 255 {
             let x = node_of(heap, Term(t));
-            if (successor(heap, x).0 != x.0) | ((nil != 0) & (nil != x.0)) {
+            if successor(heap, x) != x || nil.is_some_and(|other| other != x) {
                 return false;
             }
-            nil = x.0;
+            nil = Some(x);
         }
     }
     true
@@ -118,7 +116,7 @@ fn nil_holds(query: &Room, heap: &Room) -> bool {
 // The heap obeys the rule of nil, and every literal of the query holds.
 pub fn literals_hold(query: &Room, heap: &Room) -> bool {
     nil_holds(query, heap)
-        && section_holds(query, heap, 2)
-        && section_holds(query, heap, 3)
-        && section_holds(query, heap, 4)
+        && section_holds(query, heap, Section::Equalities)
+        && section_holds(query, heap, Section::Reachability)
+        && section_holds(query, heap, Section::Data)
 }

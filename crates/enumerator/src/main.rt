@@ -10,7 +10,7 @@ mod room;
 
 ghost use Rattle.std.specs.Prelude.{◌+◌, ◌≤◌, ◌<◌};
 
-use crate::room::{Room, is_same, prefix, wide};
+use crate::room::{Room, prefix};
 use prover::Answer;
 
 const QUERIES: u64 = 6000;
@@ -29,7 +29,7 @@ fn judge(order: &[u8; 8], query: &Room, length: usize) -> Outcome {
     let mut report: Room = [255; 64];
     let answer = prover::verdict(order, prefix(query, length), &mut report);
     let satisfiable = heaps::is_satisfiable(query);
-    let zero = is_same(&report, &[0; 64]);
+    let zero = report == [0; 64];
     match answer {
         Answer::Satisfiable => Outcome {
             satisfiable,
@@ -50,11 +50,9 @@ fn judge(order: &[u8; 8], query: &Room, length: usize) -> Outcome {
 }
 
 fn print_bytes(rt: &impl Print, bytes: &[u8]) {
-    let mut i: usize = 0;
-    while i < bytes.len() {
+    for byte in bytes {
         streams::write_all(rt, b" ");
-        streams::print_hex(rt, bytes[i]);
-        i += 1;
+        streams::print_hex(rt, *byte);
     }
 }
 
@@ -79,14 +77,6 @@ fn ask(rt: &impl Print, seed: &mut u64) -> Outcome {
     outcome
 }
 
-// One more if the thing counted is there.
-fn more(count: u64, there: bool) -> u64
-    requires { count < 1000000 }
-    ensures { result ≤ count + 1 }
-{
-    if there { count + 1 } else { count }
-}
-
 fn print_total(rt: &impl Print, name: &[u8], total: u64) {
     streams::write_all(rt, name);
     streams::print_decimal(rt, total);
@@ -99,17 +89,15 @@ fn main(rt: HostRuntime) {
     let mut satisfiable: u64 = 0;
     let mut disagreements: u64 = 0;
     let mut failing: u64 = 0;
-    let mut asked: u64 = 0;
-    while asked < QUERIES {
+    for _ in 0..QUERIES {
         let outcome = ask(&rt, &mut seed);
-        satisfiable = more(satisfiable, outcome.satisfiable);
-        disagreements = more(disagreements, !outcome.agrees);
-        failing = more(failing, !outcome.reported);
-        asked += 1;
+        satisfiable += u64::from(outcome.satisfiable);
+        disagreements += u64::from(!outcome.agrees);
+        failing += u64::from(!outcome.reported);
     }
-    print_total(&rt, b"queries ", asked);
+    print_total(&rt, b"queries ", QUERIES);
     print_total(&rt, b"satisfiable ", satisfiable);
-    print_total(&rt, b"refuted ", asked - satisfiable);
+    print_total(&rt, b"refuted ", QUERIES - satisfiable);
     print_total(&rt, b"disagreements ", disagreements);
     print_total(&rt, b"reports that fail ", failing);
 }

@@ -23,13 +23,9 @@ fn pick(seed: &mut u64, below: usize) -> usize
 // A permutation of 1 to 8.
 pub fn random_order(seed: &mut u64) -> [u8; 8] {
     let mut order: [u8; 8] = [1, 2, 3, 4, 5, 6, 7, 8];
-    let mut i: usize = 0;
-    while i < 8 {
+    for i in 0..8 {
         let j = pick(seed, i + 1);
-        let moved = order[i];
-        order[i] = order[j];
-        order[j] = moved;
-        i += 1;
+        order.swap(i, j);
     }
     order
 }
@@ -39,12 +35,10 @@ fn add_terms(seed: &mut u64, query: &mut Room, n: usize) -> usize
     requires { n < 10 }
 {
     let mut at = add(query, 0, n);
-    let mut t: usize = 0;
-    while t < n {
+    for t in 0..n {
         let drawn = pick(seed, t + 2);
         let term = if drawn == t + 1 { 255 } else { drawn };
         at = add(query, at, term);
-        t += 1;
     }
     at
 }
@@ -70,12 +64,10 @@ fn add_section(
         return add(query, from, 0);
     }
     let mut at = add(query, from, count);
-    let mut i: usize = 0;
-    while i < count {
+    for _ in 0..count {
         at = add(query, at, sign(seed));
         at = add(query, at, pick(seed, first) + 1);
         at = add(query, at, pick(seed, n) + 1);
-        i += 1;
     }
     at
 }
@@ -98,8 +90,7 @@ fn near_share(seed: &mut u64) -> Query {
     let mut query: Room = [0; 64];
     query[..19].copy_from_slice(&[4, 0, 0, 1, 2, 2, 1, 3, 4, 0, 1, 2, 2, 1, 1, 2, 1, 2, 1]);
     let changes = pick(seed, 4);
-    let mut i: usize = 0;
-    while i < changes {
+    for _ in 0..changes {
         let literal = pick(seed, 4);
         let at = 6 + 3 * literal + literal / 2;
         let part = pick(seed, 3);
@@ -108,7 +99,6 @@ fn near_share(seed: &mut u64) -> Query {
         } else {
             put(&mut query, at + part, pick(seed, 4) + 1);
         }
-        i += 1;
     }
     Query {
         bytes: query,

@@ -3,17 +3,11 @@ ghost use Rattle.std.specs.Prelude.{◌<◌};
 
 pub type Room = [u8; 64];
 
-pub fn wide(b: u8) -> usize
-    ensures { result < 256 }
-{
-    b as usize
-}
-
 // The byte at a place; 0 past the end.
 pub fn byte(a: &Room, at: usize) -> usize
     ensures { result < 256 }
 {
-    if at < 64 { wide(a[at]) } else { 0 }
+    if at < 64 { usize::from(a[at]) } else { 0 }
 }
 
 // A byte is written at a place; nothing past the end.
@@ -37,21 +31,10 @@ pub fn prefix(a: &[u8], length: usize) -> &[u8] {
     &a[0..length]
 }
 
-pub fn is_same(a: &Room, b: &Room) -> bool {
-    check::same(a, b)
-}
-
 // The value of bit j, counted from 1.
 pub fn bit(j: usize) -> usize {
     match j {
-        1 => 1,
-        2 => 2,
-        3 => 4,
-        4 => 8,
-        5 => 16,
-        6 => 32,
-        7 => 64,
-        8 => 128,
+        1..=8 => 1 << (j - 1),
         _ => 0,
     }
 }
@@ -61,9 +44,7 @@ pub fn fill(a: &mut Room, from: usize, count: usize, value: usize)
     requires from_bound { from < 10000 }
     requires count_bound { count < 10000 }
 {
-    let mut i: usize = 0;
-    while i < count {
+    for i in 0..count {
         put(a, from + i, value);
-        i += 1;
     }
 }

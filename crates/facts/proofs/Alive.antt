@@ -12,7 +12,7 @@ use borrow.Author.Tests.{le-ltb, ltb-false}
 use Rattle.logic.specs.Search.{◌and◌, ◌or◌}
 use Rattle.logic.specs.Facts.{live}
 use Rattle.rows.specs.Bits.{bit}
-use Rattle.facts.specs.Path.{rep_of, replaced_by}
+use Rattle.facts.specs.Path.{rep_of, replaced_by, path_as}
 use Rattle.rows.proofs.Bits.{bit-none, bit-and}
 use Rattle.facts.proofs.Rep.{rep_in}
 use Rattle.rows.proofs.Fill.{Filled}
@@ -48,3 +48,9 @@ live_all n h rep cur among e m = fun_ext told
     told x =
         bit-and cur among x ∙ rw (m x, e x, add-one n)
         (both (ltb 0 x) (ltb x (suc n)) (ltb x 17) (eqb (rep_of rep x) x) (bit 0 x) (bit-none x) (λ f. let g = ltb-false x 17 f in le-ltb x (suc n) (omega arith)))
+
+-- the same of a path: whether a term is replaced is all that is asked of it
+pub live_path : (n : ℕ) → n ≤ 16 → (rep : List ℕ) (cur among : ℕ) → ((i : ℕ) → bit among i ≡ ltb 0 i and ltb i (n + 1)) →
+    Filled (itself rep) (bit 0) 17 (bit cur) → (single : Bool) (link reach : List ℕ) → bit (bit_and cur among) ≡ live n (path_as single rep link reach)
+unfolding live replaced_by
+live_path n h rep cur among e m single link reach = live_all n h rep cur among e m

@@ -1,8 +1,8 @@
 -- What terms were replaced by, read and written.
 use Prim.Native.Nat.{ℕ, ◌+◌, ◌≤◌}
 use native.Mathlib.Omega.{arith}
-use mathlib.Core.Path.{◌≡◌, sym, ◌∙◌}
-use mathlib.Core.Bool.{cond}
+use mathlib.Core.Path.{◌≡◌, refl, sym, ◌∙◌}
+use mathlib.Core.Bool.{false, cond}
 use mathlib.Core.List.{List}
 use lib.ListN.{length, get_or, set}
 use lib.Seq.{get_or-set_same, get_or-set_other}
@@ -36,6 +36,18 @@ module _ (lo hi : ℕ) (rep : List ℕ) where
     where
       old : get_or cur t 0 ≡ rep_of rep t
       old = sym (rep_in cur t h) ∙ filled_old _ _ t (rep_of cur) m
+
+  -- a term that hi does not stand for stays as it is
+  pub kept_more : (t : ℕ) → t ≤ 16 → (cur : List ℕ) → eqb (get_or cur t 0) hi ≡ false →
+      Filled (replace_rep lo hi (rep_of rep)) (rep_of rep) t (rep_of cur) → Filled (replace_rep lo hi (rep_of rep)) (rep_of rep) (t + 1) (rep_of cur)
+  unfolding replace_rep
+  kept_more t h cur e m = filled_more _ _ t (rep_of cur) _ (old ∙ sym (rw other)) (λ x n. refl) m
+    where
+      old : rep_of cur t ≡ rep_of rep t
+      old = filled_old _ _ t (rep_of cur) m
+
+      other : eqb (rep_of rep t) hi ≡ false
+      other = rw (sym old ∙ rep_in cur t h) e
 
   pub renamed_all : hi ≤ 16 → (cur : List ℕ) → Filled (replace_rep lo hi (rep_of rep)) (rep_of rep) 17 (rep_of cur) → rep_of cur ≡ replace_rep lo hi (rep_of rep)
   unfolding replace_rep

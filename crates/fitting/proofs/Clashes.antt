@@ -12,7 +12,7 @@ use Rattle.logic.specs.Search.{◌and◌, ◌or◌, at, holds_of}
 use Rattle.logic.specs.Query.{Query, Literal}
 use Rattle.logic.specs.Facts.{Facts, line, negated_at, plain_at, is_clash}
 use Rattle.theory.proofs.Basics.Search.{and-false}
-use Rattle.facts.specs.Path.{path_of, rep_of}
+use Rattle.facts.specs.Path.{path_of}
 use Rattle.facts.specs.declared.Facts as code
 use Rattle.query.specs.declared.Layout.{Layout}
 use Rattle.query.proofs.Literals.{listed, listed-length}
@@ -122,12 +122,12 @@ module _ (l : Layout) (bytes : List ℕ) (s : code.Facts) (section i j : ℕ) wh
   abbrev Clashes : Bool
   Clashes = is_clash (said l bytes) (path_of s) (line 9 section i j)
 
-  pub clash_fields : (v : Bool) → v ≡ negated_at (literals_in bytes l.field_at l.field_count) i (λ x. plain_at (literals_in bytes l.field_at l.field_count) j (same_field (rep_of s.rep) x)) → section ≡ 4 → v ≡ Clashes
-  unfolding path_of said
+  pub clash_fields : (v : Bool) → v ≡ negated_at (literals_in bytes l.field_at l.field_count) i (λ x. plain_at (literals_in bytes l.field_at l.field_count) j (same_field (path_of s).rep x)) → section ≡ 4 → v ≡ Clashes
+  unfolding said
   clash_fields v h e = h ∙ in_fields (said l bytes) (path_of s) section i j e
 
-  pub clash_equalities : (v : Bool) → v ≡ negated_at (literals_in bytes l.equal_at l.equal_count) i (one_term (rep_of s.rep)) → section ≡ 2 → j ≡ 0 → v ≡ Clashes
-  unfolding path_of said
+  pub clash_equalities : (v : Bool) → v ≡ negated_at (literals_in bytes l.equal_at l.equal_count) i (one_term (path_of s).rep) → section ≡ 2 → j ≡ 0 → v ≡ Clashes
+  unfolding said
   clash_equalities v h e f = h ∙ in_equalities (said l bytes) (path_of s) section i j e f
 
   pub clash_reachability : (v : Bool) → v ≡ negated_at (said l bytes).reachability i (reach_held (path_of s)) → section ≡ 3 → j ≡ 0 → v ≡ Clashes

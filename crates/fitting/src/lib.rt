@@ -2,29 +2,30 @@
 // a true one.
 #![tactic(auto)]
 
-ghost use Rattle.std.specs.Prelude.{◌≡◌, Bool, true, cond, ℕ, ◌+◌, ◌*◌, ◌≤◌, ◌<◌, length};
+ghost use Rattle.std.specs.Prelude.{◌≡◌, Bool, true, ℕ, ◌+◌, ◌*◌, ◌≤◌, ◌<◌, length};
 ghost use Rattle.logic.specs.Search.{◌and◌};
 ghost use Rattle.logic.specs.Facts.{live, line, negated_at, plain_at, is_clash};
 ghost use Rattle.logic.specs.Rules.{CYCLE, triple, move, applies, move_of};
-ghost use Rattle.facts.specs.Path.{graph_of, path_of, rep_of, HasLink};
+ghost use Rattle.facts.specs.Path.{graph_of, path_of, HasLink};
 ghost use Rattle.rows.specs.Square.{square};
 ghost use Rattle.link_query.specs.Said.{said, Within};
-ghost use Rattle.rules.specs.Answers.{kind_of, choice_of};
+ghost use Rattle.rules.specs.Answers.{kind_of, choice_of, move_as};
 ghost use Rattle.rules.specs.Tests.{pair_test, third_test, is_not_cycle};
 ghost use Rattle.rules.specs.Allowed.{allowed};
 ghost use Rattle.literal_tests.specs.Tests.{one_term, reach_held, same_field};
 ghost use Rattle.clash.specs.Sections.{literals_in};
 
+use clash::Clash;
 use facts::Facts;
 use link_rows::Link;
 use query::Layout;
 use rows::Term;
-use rules::{Choice, Numbered, Rule, Third};
+use rules::{Move, Rule, Third};
 
 // Term t is not replaced.
-fn is_live(s: Facts, n: usize, t: Term) -> bool
+fn is_live(s: &Facts, n: usize, t: Term) -> bool
     requires { n ≤ 16 }
-    ensures { result ≡ live n (path_of s) t.0 }
+    ensures { result ≡ live n (path_of s.now) t.0 }
 {
     let at = t.0;
     if at == 0 {
@@ -33,8 +34,7 @@ fn is_live(s: Facts, n: usize, t: Term) -> bool
     if n < at {
         return false;
     }
-    let to = rows::wide(s.rep[at]);
-    to == at
+    usize::from(s.rep[at]) == at
 }
 
 // The fact about a and b is held, whatever numbers they have.
@@ -105,37 +105,41 @@ fn is_round(link: &[u32; 17], reach: &[u32; 17], n: usize, x: Term, y: Term, k: 
 }
 
 // The rule that the first number of a line names, and by which link of the path: it "gains 16 times (link minus 1)" (02, R-11).
-pub fn named(single: bool, number: u8, x: Term, y: Term, z: Third) -> Choice
-    ensures { choice_of result ≡ move_of (cond single 1 3) number (triple x.0 y.0 z.0) }
+pub fn named(s: &Facts, number: u8, x: Term, y: Term, z: Third) -> Option<Move>
+    ensures { choice_of result ≡ move_of (path_of s.now).links number (triple x.0 y.0 z.0) }
 {
-    let k = rows::wide(number) / 16 + 1;
-    if facts::links(single) < k {
-        return Choice::Nothing;
+    let k = usize::from(number) / 16 + 1;
+    if s.links() < k {
+        return None;
     }
-    let Numbered::Is(rule) = rules::rule_numbered(number % 16) else {
-        return Choice::Nothing;
-    };
-    Choice::Apply(Link(k), rule, x, y, z)
+    let rule = Rule::numbered(number % 16)?;
+    Some(Move {
+        link: Link(k),
+        rule,
+        x,
+        y,
+        z,
+    })
 }
 
-// The rule applies by link k to the path at this triple, whose third number is a term, or the steps of CYCLE.
-pub fn applies(s: Facts, n: usize, k: Link, rule: Rule, x: Term, y: Term, z: Third) -> bool
-    requires { (n ≤ 16) × HasLink (path_of s) k.0 }
-    ensures { result ≡ applies n (path_of s) (move k.0 (kind_of rule) (triple x.0 y.0 z.0)) }
+// The move applies to the path: the third number of its triple is a term, or the steps of CYCLE.
+pub fn applies(s: &Facts, n: usize, m: Move) -> bool
+    requires { (n ≤ 16) × HasLink (path_of s.now) m.link.0 }
+    ensures { result ≡ applies n (path_of s.now) (move_as m) }
 {
-    let link = link_rows::rows_of(&s.link, k);
-    let reach = link_rows::rows_of(&s.reach, k);
-    if rules::is_not_cycle(rule) {
-        let alive = is_live(s, n, x);
-        return is_allowed(rule, alive, &link, &reach, x, y, Term(z.0));
+    let link = link_rows::rows_of(&s.link, m.link);
+    let reach = link_rows::rows_of(&s.reach, m.link);
+    if m.rule.is_not_cycle() {
+        let alive = is_live(s, n, m.x);
+        return is_allowed(m.rule, alive, &link, &reach, m.x, m.y, m.z.term());
     }
-    is_round(&link, &reach, n, x, y, z.0)
+    is_round(&link, &reach, n, m.x, m.y, m.z.0)
 }
 
 // Equality i, from 1, is negated, and its terms have one representative.
-fn is_equality_clash(query: &[u8], at: usize, count: usize, rep: &[u8; 17], i: usize) -> bool
+fn is_equality_clash(query: &[u8], at: usize, count: usize, s: &Facts, i: usize) -> bool
     requires { at + 3 * count ≤ length query.now }
-    ensures { result ≡ negated_at (literals_in query.now at count) i (one_term (rep_of rep.now)) }
+    ensures { result ≡ negated_at (literals_in query.now at count) i (one_term (path_of s.now).rep) }
 {
     if i == 0 {
         return false;
@@ -143,13 +147,13 @@ fn is_equality_clash(query: &[u8], at: usize, count: usize, rep: &[u8; 17], i: u
     if count < i {
         return false;
     }
-    literal_tests::is_unequal_to_itself(query, at, i - 1, rep)
+    literal_tests::is_unequal_to_itself(query, at, i - 1, s)
 }
 
 // Reachability literal i, from 1, is negated, and its fact is held.
-fn is_reach_clash(query: &[u8], layout: Layout, s: Facts, i: usize) -> bool
+fn is_reach_clash(query: &[u8], layout: Layout, s: &Facts, i: usize) -> bool
     requires { Within layout query.now }
-    ensures { result ≡ negated_at (said layout query.now).reachability i (reach_held (path_of s)) }
+    ensures { result ≡ negated_at (said layout query.now).reachability i (reach_held (path_of s.now)) }
 {
     if i == 0 {
         return false;
@@ -162,9 +166,9 @@ fn is_reach_clash(query: &[u8], layout: Layout, s: Facts, i: usize) -> bool
 }
 
 // Data literal i, from 1, is negated, and literal j is a plain one of the same field and term.
-fn is_field_clash(query: &[u8], at: usize, count: usize, rep: &[u8; 17], i: usize, j: usize) -> bool
+fn is_field_clash(query: &[u8], at: usize, count: usize, s: &Facts, i: usize, j: usize) -> bool
     requires { at + 3 * count ≤ length query.now }
-    ensures { result ≡ negated_at (literals_in query.now at count) i (λ l. plain_at (literals_in query.now at count) j (same_field (rep_of rep.now) l)) }
+    ensures { result ≡ negated_at (literals_in query.now at count) i (λ l. plain_at (literals_in query.now at count) j (same_field (path_of s.now).rep l)) }
 {
     if i == 0 {
         return false;
@@ -182,25 +186,27 @@ fn is_field_clash(query: &[u8], at: usize, count: usize, rep: &[u8; 17], i: usiz
         return false;
     }
     let field = query::field(query, at, i - 1);
-    let term = facts::read_rep(rep, query::right(query, at, i - 1));
-    literal_tests::is_field_partner(query, at, j - 1, rep, field, term)
+    let term = s.representative(query::right(query, at, i - 1));
+    literal_tests::is_field_partner(query, at, j - 1, s, field, term)
 }
 
-// The clash line 9, section, i, j is a true one at the path.
-pub fn is_clash(query: &[u8], layout: Layout, s: Facts, section: usize, i: usize, j: usize) -> bool
+// The line of a clash, whatever numbers it has, is a true one at the path.
+pub fn is_clash(query: &[u8], layout: Layout, s: &Facts, clash: Clash) -> bool
     requires { Within layout query.now }
-    ensures { result ≡ is_clash (said layout query.now) (path_of s) (line 9 section i j) }
+    ensures { result ≡ is_clash (said layout query.now) (path_of s.now) (line 9 clash.section clash.place clash.partner) }
 {
-    if section == 4 {
-        return is_field_clash(query, layout.field_at, layout.field_count, &s.rep, i, j);
+    let i = clash.place;
+    let j = clash.partner;
+    if clash.section == 4 {
+        return is_field_clash(query, layout.field_at, layout.field_count, s, i, j);
     }
     if j != 0 {
         return false;
     }
-    if section == 2 {
-        return is_equality_clash(query, layout.equal_at, layout.equal_count, &s.rep, i);
+    if clash.section == 2 {
+        return is_equality_clash(query, layout.equal_at, layout.equal_count, s, i);
     }
-    if section == 3 {
+    if clash.section == 3 {
         return is_reach_clash(query, layout, s, i);
     }
     false

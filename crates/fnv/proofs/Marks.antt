@@ -1,29 +1,16 @@
 -- The mark octet by octet, and known values. Assumes nothing.
-use Prim.Native.Nat.{ℕ, ◌+◌, ◌<◌, ◌≤◌}
-use native.Mathlib.Numerals.{add-one}
-use mathlib.Core.Path.{◌≡◌, refl, ap, sym, ◌∙◌}
+use Prim.Native.Nat.{ℕ}
+use mathlib.Core.Path.{◌≡◌, refl, ap, ◌∙◌}
 use mathlib.Core.List.{List, [], ◌∷◌}
-use lib.ListN.{length, get_or, drop, drop_of_length-le}
-use lib.Seq.{drop-cons}
 use lib.Bits.{bit_xor}
+use Rattle.std.specs.List.{fold}
 use Rattle.fnv.specs.Mark.{wrapping_product, marked, mark_from, mark_of}
 
--- the octets from i on: the first of them, and none
-module _ (octets : List ℕ) (i hash : ℕ) where
-  pub mark_next : (next : ℕ) → i < length octets → next ≡ marked hash (get_or octets i 0) → mark_from next (drop (i + 1) octets) ≡ mark_from hash (drop i octets)
-  unfolding mark_from
-  mark_next next h e =
-      ap (λ (k : ℕ). mark_from k (drop (i + 1) octets)) e
-      ∙ ap (λ (k : ℕ). mark_from (marked hash (get_or octets i 0)) (drop k octets)) (add-one i)
-      ∙ ap (mark_from hash) (sym (drop-cons octets i 0 h))
-
-  pub mark_end : length octets ≤ i → mark_from hash (drop i octets) ≡ hash
-  unfolding mark_from
-  mark_end h = ap (mark_from hash) (drop_of_length-le octets {i = i} h)
-
-pub mark_starts : (octets : List ℕ) → mark_from 2166136261 (drop 0 octets) ≡ mark_of octets
-unfolding mark_of
-mark_starts octets = refl
+-- the mark as a fold
+pub fold_marks : (hash : ℕ) (octets : List ℕ) → fold marked hash octets ≡ mark_from hash octets
+unfolding mark_from
+fold_marks hash [] = refl
+fold_marks hash (octet ∷ octets) = fold_marks (marked hash octet) octets
 
 -- one octet, of the wider number that it is read as
 pub step_marks : {wide octet r : ℕ} (hash : ℕ) → wide ≡ octet → r ≡ wrapping_product (bit_xor wide hash) 16777619 → r ≡ marked hash octet

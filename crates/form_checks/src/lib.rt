@@ -4,10 +4,11 @@
 ghost use Rattle.link_query.specs.Answers.{CheckedBy};
 ghost use Rattle.call_limits.specs.Forms.{form_of};
 
-use query_checks::Checked;
+use query::Layout;
+use refusals::Refusal;
 
 // The checks of a query's bytes: with three links, or in the form of 01.
-pub fn checked(three: bool, query: &[u8]) -> Checked
+pub fn checked(three: bool, query: &[u8]) -> Result<Layout, Refusal>
     ensures { CheckedBy (form_of three) result query.now }
 {
     if three {

@@ -22,7 +22,6 @@ use Rattle.text.proofs.Writing.{writes_taken}
 use Rattle.query.specs.LaysOut.{LaysOut, literal_in}
 use Rattle.query_checks.specs.Answers.{CheckedAs}
 use Rattle.query.specs.declared.Layout.{Layout}
-use Rattle.query_checks.specs.declared.Checked.TheVariants as checked
 use Rattle.query.proofs.Literals.{listed-length, equalities-listed, reachability-listed, fields-listed}
 use Rattle.formula.specs.Grammar.{Letter, E, R, D, B, Formula, literal, both, either, disjunction}
 use Rattle.formula.specs.Expansion.{Conjunction, expand}
@@ -38,6 +37,9 @@ use Rattle.formula_reader.specs.Marked.{marked, Marks, fits, Picks}
 use Rattle.formula_reader.proofs.Laws.{cap_low, cap_high}
 use Rattle.formula_reader.proofs.Trees.{tree_count}
 use Rattle.formula_query.specs.Kept.{PutsQuery}
+use Rattle.std.specs.Prelude.{Ok, Err}
+use Rattle.refusals.specs.declared.Refusal.{Refusal}
+use Rattle.refusals.specs.Numbers.{number_of}
 use Rattle.prover.specs.Promise.{meaning, input_of, Does}
 use Rattle.formula_call.specs.FormulaPromise.{formula_input, DoesFormula, Formulas}
 use Rattle.prover.specs.declared.Answer.{Answer}
@@ -226,19 +228,19 @@ module _ (order query text before bytes : List ℕ) where
   pub formula-order : is_order order ≡ false → bytes ≡ replicate (length before) 0 → DoesFormula (formula_call given) (answer.Refused 1 0) bytes
   formula-order o b = call_refused 1 0 (unfold calls.verdict_checks_of in order_refused (record { order = order; query = query; room = length before }) _ o) b
 
-  pub formula-query : (k place : ℕ) → is_order order ≡ true → CheckedAs (checked.Refused k place) query → bytes ≡ replicate (length before) 0 →
-      DoesFormula (formula_call given) (answer.Refused k place) bytes
-  formula-query k place o h b = call_refused k place (unfold calls.verdict_checks_of in
-      query_refused (record { order = order; query = query; room = length before }) calls.query_checks _ (refused k place) o
+  pub formula-query : (e : Refusal) → is_order order ≡ true → CheckedAs (Err e) query → bytes ≡ replicate (length before) 0 →
+      DoesFormula (formula_call given) (answer.Refused (number_of e.fault) e.place) bytes
+  formula-query e o h b = call_refused (number_of e.fault) e.place (unfold calls.verdict_checks_of in
+      query_refused (record { order = order; query = query; room = length before }) calls.query_checks _ (refused (number_of e.fault) e.place) o
       (h (record { order = order; query = query; room = length before }) refl)) b
 
-  pub formula-room : (l : Layout) → is_order order ≡ true → CheckedAs (checked.Accepted l) query → length before < 53 →
+  pub formula-room : (l : Layout) → is_order order ≡ true → CheckedAs (Ok l) query → length before < 53 →
       bytes ≡ replicate (length before) 0 → DoesFormula (formula_call given) (answer.Refused 9 0) bytes
   formula-room l o h r b = call_refused 9 0
       (room_refused (record { order = order; query = query; room = length before }) calls.one_link_form o
       (h.0 (record { order = order; query = query; room = length before }) refl) r) b
 
-  pub formula-text : (l : Layout) (r : FormulaAnswer) → is_order order ≡ true → CheckedAs (checked.Accepted l) query → 53 ≤ length before →
+  pub formula-text : (l : Layout) (r : FormulaAnswer) → is_order order ≡ true → CheckedAs (Ok l) query → 53 ≤ length before →
       DoesFormula (text_outcome given) r bytes → DoesFormula (formula_call given) r bytes
   formula-text l r o h k d = call_text r
       (verdict_clear (record { order = order; query = query; room = length before }) calls.one_link_form o

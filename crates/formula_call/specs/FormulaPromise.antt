@@ -10,6 +10,8 @@ use Rattle.formula.specs.Call.{Input, Outcome, first_of}
 use Rattle.formula.specs.Call as formula
 use Rattle.formula_reader.specs.Tree.{Tree}
 use Rattle.formula_reader.specs.Marked.{fits, Picks}
+use Rattle.refusals.specs.declared.Refusal.{Refusal}
+use Rattle.refusals.specs.Numbers.{number_of}
 use Rattle.prover.specs.Promise.{Does}
 use Rattle.prover.specs.declared.Answer.{Answer}
 use Rattle.formula_call.specs.declared.FormulaAnswer.{FormulaAnswer}
@@ -20,6 +22,10 @@ abbrev pub formula_meaning : FormulaAnswer → formula.Answer
 formula_meaning (answer.Conjunction n) = formula.conjunction n
 formula_meaning answer.Refuted = formula.refuted
 formula_meaning (answer.Refused k place) = formula.refused k place
+
+-- the answer for a refusal
+abbrev pub refused_as : Refusal → FormulaAnswer
+refused_as e = answer.Refused (number_of e.fault) e.place
 
 abbrev pub formula_input : List ℕ → List ℕ → List ℕ → List ℕ → Input
 formula_input order query text before = record { order = order; query = query; text = text; room = length before }

@@ -6,12 +6,14 @@ ghost use Rattle.formula.specs.Call.{is_satisfiable, text_outcome, formula_call}
 ghost use Rattle.formula_reader.specs.Marked.{Pickable};
 ghost use Rattle.query.specs.LaysOut.{LaysOut};
 ghost use Rattle.prover.specs.Promise.{meaning};
-ghost use Rattle.formula_call.specs.FormulaPromise.{formula_input, DoesFormula, DecidesOne, FormulaAt, DecidesFirst};
+ghost use Rattle.formula_call.specs.FormulaPromise.{refused_as, formula_input, DoesFormula, DecidesOne, FormulaAt, DecidesFirst};
 
-use formula_reader::Found;
 use prover::Answer;
 use query::Layout;
-use query_checks::Checked;
+use refusals::{Fault, Refusal};
+
+// 19: "more than 64 conjunctions"
+const MOST_CONJUNCTIONS: usize = 64;
 
 // What the formula call answers: the number of the first satisfiable conjunction, "refuted", or a refusal's number and place.
 #[derive(Drop)]
@@ -19,6 +21,12 @@ pub enum FormulaAnswer {
     Conjunction(usize),
     Refuted,
     Refused(usize, usize),
+}
+
+fn refused(refusal: Refusal) -> FormulaAnswer
+    ensures { result ≡ refused_as refusal }
+{
+    FormulaAnswer::Refused(refusal.fault.number(), refusal.place)
 }
 
 fn is_satisfiable(answer: Answer) -> bool
@@ -64,12 +72,10 @@ fn decide_first(
     requires { LaysOut layout query.now × FormulaAt nodes.now root count × (report.old ≡ replicate (length report.old) 0) }
     ensures { DecidesFirst order.now query.now nodes.now root count report.old result report.new }
 {
-    let mut k: usize = 0;
-    while k < count {
+    for k in 0..count {
         if is_satisfiable(decide_one(order, query, layout, nodes, root, k, report)) {
             return FormulaAnswer::Conjunction(k + 1);
         }
-        k += 1;
     }
     FormulaAnswer::Refuted
 }
@@ -86,7 +92,7 @@ fn decide_text(
     ensures { DoesFormula (text_outcome (formula_input order.now query.now text.now report.old)) result report.new }
 {
     if 512 < text.len() {
-        return FormulaAnswer::Refused(17, 512);
+        return refused(Fault::FormulaText.at(512));
     }
     let counts = [
         layout.equal_count,
@@ -95,16 +101,16 @@ fn decide_text(
         0,
     ];
     let mut nodes = [0usize; 2048];
-    match formula_reader::read_text(text, &counts, &mut nodes) {
-        Found::Refused(k, place) => FormulaAnswer::Refused(k, place),
-        Found::Read(next, last) => {
-            let count = formula_reader::count_at(&nodes, last - 1);
-            if 64 < count {
-                return FormulaAnswer::Refused(19, 0);
-            }
-            decide_first(order, query, layout, &nodes, last - 1, count, report)
-        }
+    let parsed = match formula_reader::read_text(text, &counts, &mut nodes) {
+        Ok(parsed) => parsed,
+        Err(refusal) => return refused(refusal),
+    };
+    let root = parsed.used - 1;
+    let count = formula_reader::count_at(&nodes, root);
+    if MOST_CONJUNCTIONS < count {
+        return refused(Fault::Conjunctions.at(0));
     }
+    decide_first(order, query, layout, &nodes, root, count, report)
 }
 
 // The formula call: the number of the first satisfiable conjunction with its heap in the report, "refuted", or one of the refusals 1 to 9,
@@ -114,15 +120,14 @@ pub fn formula(order: &[u8], query: &[u8], text: &[u8], report: &mut [u8]) -> Fo
 {
     lent::clear(report);
     if !order_list::is_order(order) {
-        return FormulaAnswer::Refused(1, 0);
+        return refused(Fault::OrderList.at(0));
     }
-    match query_checks::check(query) {
-        Checked::Refused(k, place) => FormulaAnswer::Refused(k, place),
-        Checked::Accepted(layout) => {
-            if report.len() < 53 {
-                return FormulaAnswer::Refused(9, 0);
-            }
-            decide_text(order, query, layout, text, report)
-        }
+    let layout = match query_checks::check(query) {
+        Ok(layout) => layout,
+        Err(refusal) => return refused(refusal),
+    };
+    if report.len() < 53 {
+        return refused(Fault::ReportBuffer.at(0));
     }
+    decide_text(order, query, layout, text, report)
 }

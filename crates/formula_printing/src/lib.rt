@@ -1,7 +1,7 @@
 // What formulaverdict prints, made in a lent buffer. The program reads, asks for the text and writes it.
 #![tactic(auto)]
 
-ghost use Rattle.std.specs.Prelude.{◌≡◌, ◌+◌, ◌*◌, ◌≤◌, ◌<◌, min, length, get_or, true};
+ghost use Rattle.std.specs.Prelude.{◌≡◌, ◌+◌, ◌*◌, ◌≤◌, ◌<◌, length, get_or, true};
 ghost use Rattle.logic.specs.Shown.{well_formed};
 ghost use Rattle.text.specs.Text.{Writes};
 ghost use Rattle.formula_printing.specs.FormulaverdictText.{sat_text, text_of, parts_text, formulaverdict_text};
@@ -31,16 +31,6 @@ fn put_answer(buffer: &mut [u8], order: &[u8], query: &[u8], formula: &[u8]) -> 
     }
 }
 
-// The smaller of two numbers.
-fn at_most(n: usize, most: usize) -> usize
-    ensures { result ≡ min n most }
-{
-    if most < n {
-        return most;
-    }
-    n
-}
-
 // The byte at a place, or 0 where there is none.
 fn byte_at(bytes: &[u8], at: usize) -> usize
     ensures { (result ≡ get_or bytes.now at 0) × (result < 256) }
@@ -58,9 +48,9 @@ fn put_parts(buffer: &mut [u8], read: &[u8]) -> usize
 {
     let n = read.len();
     let size = 256 * byte_at(read, 8) + byte_at(read, 9);
-    let cut = at_most(n, 8);
-    let begin = at_most(n, 10);
-    let end = at_most(n, 10 + size);
+    let cut = n.min(8);
+    let begin = n.min(10);
+    let end = n.min(10 + size);
     put_answer(buffer, &read[..cut], &read[begin..end], &read[end..])
 }
 
@@ -69,6 +59,6 @@ pub fn put_text(buffer: &mut [u8], input: &[u8]) -> usize
     ensures { Writes buffer.old 0 (formulaverdict_text input.now) buffer.new result × (result ≤ 250) }
 {
     let n = input.len();
-    let end = at_most(n, 2048);
+    let end = n.min(2048);
     put_parts(buffer, &input[..end])
 }

@@ -19,25 +19,15 @@ fn is_marked(marks: &[bool; 256], code: usize, n: usize) -> bool
     marks[64 * code + n]
 }
 
-fn with_mark(kept: usize, marked: bool) -> usize
-    requires { kept ≤ 60 }
-    ensures { result ≡ cond marked (kept + 1) kept }
-{
-    if marked {
-        return kept + 1;
-    }
-    kept
-}
-
 fn count_marked(marks: &[bool; 256], code: usize, count: usize) -> usize
     requires { (code < 4) × (count ≤ 60) }
     ensures { (result ≤ count) × Counted result marks.now code count }
 {
-    let mut kept: usize = 0;
-    let mut i: usize = 0;
-    while i < count {
-        kept = with_mark(kept, is_marked(marks, code, i + 1));
-        i += 1;
+    let mut kept = 0;
+    for i in 0..count {
+        if is_marked(marks, code, i + 1) {
+            kept += 1;
+        }
     }
     kept
 }
@@ -46,10 +36,7 @@ fn count_marked(marks: &[bool; 256], code: usize, count: usize) -> usize
 fn sign_byte(b: u8) -> u8
     ensures { result ≡ sign_byte (eqb b 1) }
 {
-    if b == 1 {
-        return 1;
-    }
-    0
+    u8::from(b == 1)
 }
 
 // Literal i of a section.
@@ -63,44 +50,47 @@ fn put_literal(query: &[u8], at: usize, i: usize, out: &mut [u8], to: usize) -> 
     text::put_byte(out, left, query[place + 2])
 }
 
-// The same where the literal is marked.
+// A section of literals: the place of the first, how many there are, and the code that marks have for it.
+#[derive(Clone, Copy)]
+struct Section {
+    at: usize,
+    count: usize,
+    code: usize,
+}
+
+// Literal i of a section where it is marked.
 fn put_marked_literal(
     query: &[u8],
-    at: usize,
+    section: Section,
     i: usize,
     marks: &[bool; 256],
-    code: usize,
     out: &mut [u8],
     to: usize,
 ) -> usize
-    requires { (at + 3 * i + 3 ≤ length query.now) × (to ≤ 1000) × (code < 4) × (i < 60) }
-    ensures { Writes out.old to (cond (mark marks.now code (i + 1)) (literal_bytes (literal_in query.now at i)) []) out.new result }
+    requires { (section.at + 3 * i + 3 ≤ length query.now) × (to ≤ 1000) × (section.code < 4) × (i < 60) }
+    ensures { Writes out.old to (cond (mark marks.now section.code (i + 1)) (literal_bytes (literal_in query.now section.at i)) []) out.new result }
 {
-    if !is_marked(marks, code, i + 1) {
+    if !is_marked(marks, section.code, i + 1) {
         return to;
     }
-    put_literal(query, at, i, out, to)
+    put_literal(query, section.at, i, out, to)
 }
 
 // The marked literals of a section, after their count.
 fn put_literals(
     query: &[u8],
-    at: usize,
-    count: usize,
+    section: Section,
     marks: &[bool; 256],
-    code: usize,
     out: &mut [u8],
     to: usize,
 ) -> usize
-    requires { (at + 3 * count ≤ length query.now) × (count ≤ 60) × (code < 4) × (to ≤ 600) }
-    ensures { (result ≤ to + 1 + 3 * count) × Writes out.old to (section_bytes (chosen (mark marks.now code) 1 (literals (take (3 * count) (drop at query.now))))) out.new result }
+    requires { (section.at + 3 * section.count ≤ length query.now) × (section.count ≤ 60) × (section.code < 4) × (to ≤ 600) }
+    ensures { (result ≤ to + 1 + 3 * section.count) × Writes out.old to (section_bytes (chosen (mark marks.now section.code) 1 (literals (take (3 * section.count) (drop section.at query.now))))) out.new result }
 {
-    let kept = count_marked(marks, code, count);
+    let kept = count_marked(marks, section.code, section.count);
     let mut end = text::put_byte(out, to, kept as u8);
-    let mut i: usize = 0;
-    while i < count {
-        end = put_marked_literal(query, at, i, marks, code, out, end);
-        i += 1;
+    for i in 0..section.count {
+        end = put_marked_literal(query, section, i, marks, out, end);
     }
     end
 }
@@ -114,32 +104,23 @@ pub fn put_query(query: &[u8], layout: Layout, marks: &[bool; 256], out: &mut [u
     let end = n + 1;
     let one = text::put_byte(out, 0, n as u8);
     let terms = text::put_bytes(out, one, &query[1..end]);
-    let equal = put_literals(
-        query,
-        layout.equal_at,
-        layout.equal_count,
-        marks,
-        0,
-        out,
-        terms,
-    );
-    let reach = put_literals(
-        query,
-        layout.reach_at,
-        layout.reach_count,
-        marks,
-        1,
-        out,
-        equal,
-    );
-    let field = put_literals(
-        query,
-        layout.field_at,
-        layout.field_count,
-        marks,
-        2,
-        out,
-        reach,
-    );
+    let equalities = Section {
+        at: layout.equal_at,
+        count: layout.equal_count,
+        code: 0,
+    };
+    let reachability = Section {
+        at: layout.reach_at,
+        count: layout.reach_count,
+        code: 1,
+    };
+    let fields = Section {
+        at: layout.field_at,
+        count: layout.field_count,
+        code: 2,
+    };
+    let equal = put_literals(query, equalities, marks, out, terms);
+    let reach = put_literals(query, reachability, marks, out, equal);
+    let field = put_literals(query, fields, marks, out, reach);
     text::put_byte(out, field, 0)
 }

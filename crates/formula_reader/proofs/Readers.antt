@@ -16,10 +16,17 @@ use Rattle.formula.specs.Places.{digits_at, past_digits}
 use Rattle.formula.specs.Reader.{Mark, mark, opening, letter, past_blanks, Reading, refused, done, and_then, joined, further, closed, named, item_by, item_at, read, calls, ended, read_text}
 use Rattle.formula_reader.specs.Tree.{letter_code, capped, Tree, put_node, has}
 use Rattle.formula_reader.specs.Answers.{stands, begins_none, saturated, Grown, FoundAs, Ranged, ReadAs, ClosedAs, Counts}
-use Rattle.formula_reader.specs.declared.Found.{Found}
-use Rattle.formula_reader.specs.declared.Found.TheVariants as found
+use Rattle.std.specs.Prelude.{Result, Ok, Err}
+use Rattle.refusals.specs.declared.Fault.TheVariants as fault
+use Rattle.refusals.specs.declared.Refusal.{Refusal}
+use Rattle.refusals.specs.Numbers.{refusal_at}
+use Rattle.formula_reader.specs.declared.Parsed.{Parsed}
 use Rattle.formula_reader.proofs.Laws.{next_byte, nothing_left, sat_low, sat_high}
 use Rattle.formula_reader.proofs.Trees.{put_node_kept, put_node-length, tree_kept, either_tree, both_tree}
+
+-- a formula was read up to a place
+abbrev pub parsed : ℕ → ℕ → Parsed
+parsed next used = record { next = next; used = used }
 
 module _ (text : List ℕ) (at b : ℕ) where
   pub stands_inside : stands text at b ≡ true → at < length text
@@ -142,7 +149,7 @@ module _ (counts : List ℕ) (left separator : ℕ) (join : Formula → Formula 
     (some : (n k : ℕ) → calls up n ≤ k → 1 ≤ k)
     (text : List ℕ) (at : ℕ) where
   -- at any number of calls that is enough
-  by_step : (r : Found) (nodes : List ℕ) →
+  by_step : (r : Result Parsed Refusal) (nodes : List ℕ) →
       ((k : ℕ) → calls low (length text - at) ≤ k → FoundAs r text nodes
       (and_then (read (has counts) k low left (drop at text)) (further separator join (read (has counts) k up left)))) → ReadAs r up text at left counts nodes
   by_step r nodes h zero l = absurd (no (some _ _ l))
@@ -151,25 +158,25 @@ module _ (counts : List ℕ) (left separator : ℕ) (join : Formula → Formula 
       no x = omega arith
   by_step r nodes h (suc k) l = subst (λ (x : Reading). FoundAs r text nodes x) (sym (step k (drop at text))) (h k (fewer _ _ l))
 
-  pub first_refused : (n place : ℕ) (nodes : List ℕ) → ReadAs (found.Refused n place) low text at left counts nodes → ReadAs (found.Refused n place) up text at left counts nodes
-  first_refused n place nodes h = by_step (found.Refused n place) nodes (λ k l. then_refused _ (h k l))
+  pub first_refused : (x : Refusal) (nodes : List ℕ) → ReadAs (Err x) low text at left counts nodes → ReadAs (Err x) up text at left counts nodes
+  first_refused x nodes h = by_step (Err x) nodes (λ k l. then_refused _ (h k l))
 
-  pub alone : (next mid : ℕ) (nodes : List ℕ) → ReadAs (found.Read next mid) low text at left counts nodes → stands text next separator ≡ false →
-      ReadAs (found.Read next mid) up text at left counts nodes
-  alone next mid nodes h e = by_step (found.Read next mid) nodes (λ k l. let (f, d, t) = h k l in (f, then_done _ d ∙ further-not separator join _ f text next e, t))
+  pub alone : (next mid : ℕ) (nodes : List ℕ) → ReadAs (Ok (parsed next mid)) low text at left counts nodes → stands text next separator ≡ false →
+      ReadAs (Ok (parsed next mid)) up text at left counts nodes
+  alone next mid nodes h e = by_step (Ok (parsed next mid)) nodes (λ k l. let (f, d, t) = h k l in (f, then_done _ d ∙ further-not separator join _ f text next e, t))
 
-  module _ (next mid : ℕ) (nodes : List ℕ) (h : ReadAs (found.Read next mid) low text at left counts nodes) (e : stands text next separator ≡ true) (a : at < next) where
+  module _ (next mid : ℕ) (nodes : List ℕ) (h : ReadAs (Ok (parsed next mid)) low text at left counts nodes) (e : stands text next separator ≡ true) (a : at < next) where
     room : (k : ℕ) → calls low (length text - at) ≤ k → calls up (length text - (next + 1)) ≤ k
     room k l = let i : next < length text = stands_inside text next separator e in later _ _ k (omega arith) l
 
-    pub second_refused : (n place : ℕ) (after : List ℕ) → ReadAs (found.Refused n place) up text (next + 1) left counts after → ReadAs (found.Refused n place) up text at left counts after
-    second_refused n place after g = by_step (found.Refused n place) after (λ k l. let (f, d, t) = h k l in
+    pub second_refused : (x : Refusal) (after : List ℕ) → ReadAs (Err x) up text (next + 1) left counts after → ReadAs (Err x) up text at left counts after
+    second_refused x after g = by_step (Err x) after (λ k l. let (f, d, t) = h k l in
         then_done _ d ∙ further_here separator join _ f text next e ∙ then_refused _ (g k (room k l)))
 
-    pub both_read : (end last : ℕ) (after whole : List ℕ) → ReadAs (found.Read end last) up text (next + 1) left counts after →
+    pub both_read : (end last : ℕ) (after whole : List ℕ) → ReadAs (Ok (parsed end last)) up text (next + 1) left counts after →
         ((f g : Formula) → Tree nodes (mid - 1) f → Tree after (last - 1) g → Tree whole (last + 1 - 1) (join f g)) →
-        ReadAs (found.Read end (last + 1)) up text at left counts whole
-    both_read end last after whole g w = by_step (found.Read end (last + 1)) whole (λ k l. let (f, d, t) = h k l in
+        ReadAs (Ok (parsed end (last + 1))) up text at left counts whole
+    both_read end last after whole g w = by_step (Ok (parsed end (last + 1))) whole (λ k l. let (f, d, t) = h k l in
         let (f', d', t') = g k (room k l) in
         (join f f', then_done _ d ∙ further_here separator join _ f text next e ∙ then_done _ d' ∙ joined_is f f' (drop end text), w f f' t t'))
       where
@@ -209,7 +216,7 @@ nothing_begins counts inner left (Mark.letter l) whole bs h = absurd (true-false
 nothing_begins counts inner left Mark.digit whole bs h = refl
 
 module _ (text : List ℕ) (at left : ℕ) (counts : List ℕ) (start : ℕ) (e : drop start text ≡ past_blanks (drop at text)) where
-  by_item : (r : Found) (nodes : List ℕ) →
+  by_item : (r : Result Parsed Refusal) (nodes : List ℕ) →
       ((k : ℕ) → calls item (length text - at) ≤ suc k → FoundAs r text nodes
       (item_at (has counts) (read (has counts) k disjunction (left - 1)) left (drop start text))) → ReadAs r item text at left counts nodes
   by_item r nodes h zero l = absurd (no l)
@@ -221,8 +228,8 @@ module _ (text : List ℕ) (at left : ℕ) (counts : List ℕ) (start : ℕ) (e 
       step : (j : ℕ) → item_at (has counts) (read (has counts) j disjunction (left - 1)) left (drop start text) ≡ read (has counts) (suc j) item left (drop at text)
       step j = unfold read in ap (item_at (has counts) (read (has counts) j disjunction (left - 1)) left) e
 
-  pub item-end : (nodes : List ℕ) → start ≡ length text → ReadAs (found.Refused 17 start) item text at left counts nodes
-  item-end nodes s = by_item (found.Refused 17 start) nodes (λ k l. let d : drop start text ≡ [] = nothing_left text start (omega arith) in
+  pub item-end : (nodes : List ℕ) → start ≡ length text → ReadAs (Err (refusal_at fault.FormulaText start)) item text at left counts nodes
+  item-end nodes s = by_item (Err (refusal_at fault.FormulaText start)) nodes (λ k l. let d : drop start text ≡ [] = nothing_left text start (omega arith) in
       ap (item_at (has counts) (read (has counts) k disjunction (left - 1)) left) d ∙ none k ∙ ap (refused 17) (sym d))
     where
       none : (k : ℕ) → item_at (has counts) (read (has counts) k disjunction (left - 1)) left [] ≡ refused 17 []
@@ -237,10 +244,10 @@ module _ (text : List ℕ) (at left : ℕ) (counts : List ℕ) (start : ℕ) (e 
         ∙ ap (λ (x : Mark). item_by (has counts) inner left x (get_or text start 0 ∷ drop (start + 1) text) (drop (start + 1) text)) k
         ∙ ap (λ (w : List ℕ). item_by (has counts) inner left m w (drop (start + 1) text)) (sym (next_byte text start i))
 
-    pub item_nothing : (nodes : List ℕ) → begins_none (mark (get_or text start 0)) ≡ true → ReadAs (found.Refused 17 start) item text at left counts nodes
-    item_nothing nodes h = by_item (found.Refused 17 start) nodes (λ k l. by_mark _ refl ∙ nothing_begins counts _ left (mark (get_or text start 0)) (drop start text) (drop (start + 1) text) h)
+    pub item_nothing : (nodes : List ℕ) → begins_none (mark (get_or text start 0)) ≡ true → ReadAs (Err (refusal_at fault.FormulaText start)) item text at left counts nodes
+    item_nothing nodes h = by_item (Err (refusal_at fault.FormulaText start)) nodes (λ k l. by_mark _ refl ∙ nothing_begins counts _ left (mark (get_or text start 0)) (drop start text) (drop (start + 1) text) h)
 
-    pub item-name : (l : Letter) (r : Found) (nodes : List ℕ) → mark (get_or text start 0) ≡ letter l →
+    pub item-name : (l : Letter) (r : Result Parsed Refusal) (nodes : List ℕ) → mark (get_or text start 0) ≡ letter l →
         FoundAs r text nodes (named (has counts) l (drop start text) (drop (start + 1) text)) → ReadAs r item text at left counts nodes
     item-name l r nodes m h = by_item r nodes (λ k c. subst (λ (x : Reading). FoundAs r text nodes x) (sym (by_mark (read (has counts) k disjunction (left - 1)) m ∙ letters k)) h)
       where
@@ -249,8 +256,8 @@ module _ (text : List ℕ) (at left : ℕ) (counts : List ℕ) (start : ℕ) (e 
         letters k = unfold item_by in refl
 
     module _ (m : mark (get_or text start 0) ≡ opening) where
-      pub item_deep : (nodes : List ℕ) → left ≡ 0 → ReadAs (found.Refused 18 start) item text at left counts nodes
-      item_deep nodes z = by_item (found.Refused 18 start) nodes (λ k l. by_mark _ m ∙ deep k)
+      pub item_deep : (nodes : List ℕ) → left ≡ 0 → ReadAs (Err (refusal_at fault.FormulaDepth start)) item text at left counts nodes
+      item_deep nodes z = by_item (Err (refusal_at fault.FormulaDepth start)) nodes (λ k l. by_mark _ m ∙ deep k)
         where
           deep : (k : ℕ) → item_by (has counts) (read (has counts) k disjunction (left - 1)) left opening (drop start text) (drop (start + 1) text) ≡ refused 18 (drop start text)
           deep k = unfold item_by in rw (eq-eqb left 0 z) refl
@@ -263,23 +270,20 @@ module _ (text : List ℕ) (at left : ℕ) (counts : List ℕ) (start : ℕ) (e 
         room_inside : (k : ℕ) → calls item (length text - at) ≤ suc k → calls disjunction (length text - (start + 1)) ≤ k
         room_inside k l = unfold calls in omega arith
 
-        pub inner_refused : (j place : ℕ) (nodes : List ℕ) → ReadAs (found.Refused j place) disjunction text (start + 1) (left - 1) counts nodes →
-            ReadAs (found.Refused j place) item text at left counts nodes
-        inner_refused j place nodes h = by_item (found.Refused j place) nodes (λ k l. inner_is k ∙ then_refused _ (h k (room_inside k l)))
+        pub inner_refused : (x : Refusal) (nodes : List ℕ) → ReadAs (Err x) disjunction text (start + 1) (left - 1) counts nodes →
+            ReadAs (Err x) item text at left counts nodes
+        inner_refused x nodes h = by_item (Err x) nodes (λ k l. inner_is k ∙ then_refused _ (h k (room_inside k l)))
 
-        pub inner-closed : (next last : ℕ) (r : Found) (nodes : List ℕ) →
-            ReadAs (found.Read next last) disjunction text (start + 1) (left - 1) counts nodes → ClosedAs r text next last → ReadAs r item text at left counts nodes
-        inner-closed next last (found.Refused j place) nodes h g = by_item (found.Refused j place) nodes (λ k l. let (f, d, t) = h k (room_inside k l) in inner_is k ∙ then_done _ d ∙ g.1 f)
-        inner-closed next last (found.Read next' last') nodes h g = by_item (found.Read next' last') nodes (λ k l. let (f, d, t) = h k (room_inside k l) in
+        pub inner-closed : (next last : ℕ) (r : Result Parsed Refusal) (nodes : List ℕ) →
+            ReadAs (Ok (parsed next last)) disjunction text (start + 1) (left - 1) counts nodes → ClosedAs r text next last → ReadAs r item text at left counts nodes
+        inner-closed next last (Err x) nodes h g = by_item (Err x) nodes (λ k l. let (f, d, t) = h k (room_inside k l) in inner_is k ∙ then_done _ d ∙ g.1 f)
+        inner-closed next last (Ok p) nodes h g = by_item (Ok p) nodes (λ k l. let (f, d, t) = h k (room_inside k l) in
             (f, inner_is k ∙ then_done _ d ∙ g.3 f, subst (λ (j : ℕ). Tree nodes (j - 1) f) (sym g.2) t))
 
 -- Nodes of two sides, and the node of both
 
 module _ (text : List ℕ) (at used next mid end last : ℕ) (before n₁ n₂ n₃ : List ℕ) (g₁ : Grown text at used next mid before n₁)
     (g₂ : Grown text (next + 1) mid end last n₁ n₂) (u : used ≤ at) (t : length text ≤ 512) (l : length before ≡ 2048) where
-  pub last_fits : last < 512
-  last_fits = omega arith
-
   pub grown-joined : (kind a b count : ℕ) → n₃ ≡ put_node n₂ (last - 1 + 1) kind a b count → Grown text at used end (last + 1) before n₃
   grown-joined kind a b count w =
       record {
@@ -306,17 +310,6 @@ module _ (text : List ℕ) (at used next mid end last : ℕ) (before n₁ n₂ n
   both_joined w f g a b = subst (λ (i : ℕ). Tree n₃ i (both f g)) place
       (both_tree (tree_kept n₂ mid g₂.kept (omega arith) a) b (last - 1 + 1) (omega arith) (g₂.same_length ∙ g₁.same_length ∙ l) (omega arith) (omega arith) w)
 
--- An item in parentheses, or behind blanks
-
-pub grown_from : {text : List ℕ} {at start used next last : ℕ} {before after : List ℕ} → at ≤ start → Grown text start used next last before after → Grown text at used next last before after
-grown_from h g = record { advanced = omega arith; within = g.within; grown = g.grown; bounded = omega arith; kept = g.kept; same_length = g.same_length }
-
-pub grown-closed : (r : Found) {text : List ℕ} {at start used next last : ℕ} {before after : List ℕ} → at ≤ start →
-    Grown text (start + 1) used next last before after → ClosedAs r text next last → Ranged r text at used before after
-grown-closed (found.Refused k place) h g c = c.0
-grown-closed (found.Read next' last') h g c = record
-    { advanced = omega (arith, c.0); within = c.1; grown = omega (arith, c.2); bounded = omega (arith, c.0, c.2); kept = g.kept; same_length = g.same_length }
-
 -- A whole text
 
 module _ (text : List ℕ) (counts nodes : List ℕ) where
@@ -326,18 +319,18 @@ module _ (text : List ℕ) (counts nodes : List ℕ) where
       ap-le : {m n : ℕ} → m ≡ n → calls disjunction m ≤ calls disjunction n
       ap-le e = rw e (omega arith)
 
-  pub whole_refused : (k place : ℕ) → ReadAs (found.Refused k place) disjunction text 0 32 counts nodes → FoundAs (found.Refused k place) text nodes (read_text (has counts) 32 text)
+  pub whole_refused : (x : Refusal) → ReadAs (Err x) disjunction text 0 32 counts nodes → FoundAs (Err x) text nodes (read_text (has counts) 32 text)
   unfolding read_text
-  whole_refused k place h = then_refused _ (h (calls disjunction (length text)) enough)
+  whole_refused x h = then_refused _ (h (calls disjunction (length text)) enough)
 
-  pub whole-more : (next last : ℕ) → next < length text → ReadAs (found.Read next last) disjunction text 0 32 counts nodes → FoundAs (found.Refused 17 next) text nodes (read_text (has counts) 32 text)
+  pub whole-more : (next last : ℕ) → next < length text → ReadAs (Ok (parsed next last)) disjunction text 0 32 counts nodes → FoundAs (Err (refusal_at fault.FormulaText next)) text nodes (read_text (has counts) 32 text)
   unfolding read_text
   whole-more next last i h = let (f, d, t) = h (calls disjunction (length text)) enough in then_done _ d ∙ ap (ended f) (next_byte text next i) ∙ more f ∙ ap (refused 17) (sym (next_byte text next i))
     where
       more : (f : Formula) → ended f (get_or text next 0 ∷ drop (next + 1) text) ≡ refused 17 (get_or text next 0 ∷ drop (next + 1) text)
       more f = unfold ended in refl
 
-  pub whole-read : (next last : ℕ) → length text ≤ next → ReadAs (found.Read next last) disjunction text 0 32 counts nodes → FoundAs (found.Read next last) text nodes (read_text (has counts) 32 text)
+  pub whole-read : (next last : ℕ) → length text ≤ next → ReadAs (Ok (parsed next last)) disjunction text 0 32 counts nodes → FoundAs (Ok (parsed next last)) text nodes (read_text (has counts) 32 text)
   unfolding read_text
   whole-read next last i h = let (f, d, t) = h (calls disjunction (length text)) enough in
       (f, then_done _ d ∙ ap (ended f) (nothing_left text next i) ∙ none f ∙ ap (done f) (sym (nothing_left text next i)), t)
@@ -358,7 +351,3 @@ code_small code Letter.E e = omega arith
 code_small code Letter.R e = omega arith
 code_small code Letter.D e = omega arith
 code_small code Letter.B e = omega arith
-
-pub ranged_from : (r : Found) (text : List ℕ) (at start used : ℕ) (before after : List ℕ) → at ≤ start → Ranged r text start used before after → Ranged r text at used before after
-ranged_from (found.Refused k place) text at start used before after h g = g
-ranged_from (found.Read next last) text at start used before after h g = grown_from h g

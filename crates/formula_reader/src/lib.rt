@@ -9,11 +9,13 @@ ghost use Rattle.formula_reader.specs.Tree.{capped, put_node, has};
 ghost use Rattle.formula_reader.specs.Answers.{stands, StartsAs, saturated, Ranged, FoundAs, ReadAs, Counts, NamedAs, ClosedAs};
 ghost use Rattle.formula_reader.specs.Marked.{Pickable, Picked};
 
-// What a reader finds: a refusal's number and place, or a formula, with the place behind it and the number of nodes up to its own.
-#[derive(Drop)]
-pub enum Found {
-    Refused(usize, usize),
-    Read(usize, usize),
+use refusals::{Fault, Refusal};
+
+// A formula that was read: the place behind it, and the number of nodes up to its own.
+#[derive(Clone, Copy)]
+pub struct Parsed {
+    pub next: usize,
+    pub used: usize,
 }
 
 // What begins an item.
@@ -21,19 +23,18 @@ pub enum Found {
 enum Start {
     Opening,
     Name(usize),
-    Nothing,
 }
 
-fn start_of(b: u8) -> Start
+fn start_of(b: u8) -> Option<Start>
     ensures { StartsAs result (mark b) }
 {
     match b {
-        40 => Start::Opening,
-        69 => Start::Name(0),
-        82 => Start::Name(1),
-        68 => Start::Name(2),
-        66 => Start::Name(3),
-        _ => Start::Nothing,
+        40 => Some(Start::Opening),
+        69 => Some(Start::Name(0)),
+        82 => Some(Start::Name(1)),
+        68 => Some(Start::Name(2)),
+        66 => Some(Start::Name(3)),
+        _ => None,
     }
 }
 
@@ -47,28 +48,26 @@ fn stands(text: &[u8], at: usize, b: u8) -> bool
     false
 }
 
-// The place behind blanks, and behind digits.
+// The place behind blanks, and behind digits: two loops, since each is held to a definition of its own, and one loop with the test as a
+// closure would need a law of each test besides.
 fn past_blanks(text: &[u8], at: usize) -> usize
     requires { at ≤ length text.now }
     ensures { (at ≤ result) × (result ≤ length text.now) × (drop result text.now ≡ past_blanks (drop at text.now)) }
 {
-    let mut i = at;
-    while i < text.len() {
+    for i in at..text.len() {
         let b = text[i];
         if b != 32 {
             return i;
         }
-        i += 1;
     }
-    i
+    text.len()
 }
 
 fn past_digits(text: &[u8], at: usize) -> usize
     requires { at ≤ length text.now }
     ensures { (at ≤ result) × (result ≤ length text.now) × (drop result text.now ≡ past_digits (drop at text.now)) }
 {
-    let mut i = at;
-    while i < text.len() {
+    for i in at..text.len() {
         let b = text[i];
         if b < 48 {
             return i;
@@ -76,9 +75,8 @@ fn past_digits(text: &[u8], at: usize) -> usize
         if 57 < b {
             return i;
         }
-        i += 1;
     }
-    i
+    text.len()
 }
 
 // The digits at a place are a literal's place: "from 1, no leading zero".
@@ -111,8 +109,7 @@ fn place_at(text: &[u8], at: usize) -> usize
     ensures { result ≡ saturated (shown 0 (digits_at (drop at text.now))) }
 {
     let mut v: usize = 0;
-    let mut i = at;
-    while i < text.len() {
+    for i in at..text.len() {
         let b = text[i];
         if b < 48 {
             return v;
@@ -121,7 +118,6 @@ fn place_at(text: &[u8], at: usize) -> usize
             return v;
         }
         v = with_digit(v, b);
-        i += 1;
     }
     v
 }
@@ -154,7 +150,8 @@ pub fn count_at(nodes: &[usize; 2048], i: usize) -> usize
     nodes[4 * i + 3]
 }
 
-// The node of an and, or of an or, behind the nodes of its two sides.
+// The node of an and, or of an or, behind the nodes of its two sides: two functions, since one would take the kind and the count that goes
+// with it as parameters, which reads no plainer.
 fn put_both(nodes: &mut [usize; 2048], a: usize, b: usize)
     requires { (a < 511) × (b < 511) }
     ensures { nodes.new ≡ put_node nodes.old (b + 1) 4 a b (capped (capped (get_or nodes.old (4 * a + 3) 0) * capped (get_or nodes.old (4 * b + 3) 0))) }
@@ -179,34 +176,38 @@ fn read_name(
     counts: &[usize; 4],
     nodes: &mut [usize; 2048],
     used: usize,
-) -> Found
+) -> Result<Parsed, Refusal>
     requires { (at < length text.now) × (length text.now ≤ 512) × (used ≤ at) × (code < 4) × Counts counts.now × (length nodes.old ≡ 2048) }
     ensures ranged { Ranged result text.now at used nodes.old nodes.new }
     ensures named_as { NamedAs result code text.now at counts.now nodes.new }
 {
     let first = at + 1;
     if !is_place(text, first) {
-        return Found::Refused(17, first);
+        return Err(Fault::FormulaText.at(first));
     }
     let n = place_at(text, first);
     if counts[code] < n {
-        return Found::Refused(17, at);
+        return Err(Fault::FormulaText.at(at));
     }
     let digits_end = past_digits(text, first);
     let next = past_blanks(text, digits_end);
     put_node(nodes, used, code, n, 0, 1);
-    Found::Read(next, used + 1)
+    Ok(Parsed {
+        next,
+        used: used + 1,
+    })
 }
 
 // What stands behind an or in parentheses.
-fn close_item(text: &[u8], at: usize, used: usize) -> Found
+fn close_item(text: &[u8], at: usize, used: usize) -> Result<Parsed, Refusal>
     requires { at ≤ length text.now }
     ensures { ClosedAs result text.now at used }
 {
     if !stands(text, at, 41) {
-        return Found::Refused(17, at);
+        return Err(Fault::FormulaText.at(at));
     }
-    Found::Read(past_blanks(text, at + 1), used)
+    let next = past_blanks(text, at + 1);
+    Ok(Parsed { next, used })
 }
 
 // "An or is read as ands, an and as items, and an item in parentheses is an or again": at most `left` parentheses deep.
@@ -218,26 +219,21 @@ fn read_or(
     counts: &[usize; 4],
     nodes: &mut [usize; 2048],
     used: usize,
-) -> Found
+) -> Result<Parsed, Refusal>
     requires { (at ≤ length text.now) × (length text.now ≤ 512) × (used ≤ at) × Counts counts.now × (length nodes.old ≡ 2048) }
     ensures ranged { Ranged result text.now at used nodes.old nodes.new }
     ensures read_as { ReadAs result disjunction text.now at left counts.now nodes.new }
 {
-    match read_and(text, at, left, counts, nodes, used) {
-        Found::Refused(k, place) => Found::Refused(k, place),
-        Found::Read(next, mid) => {
-            if !stands(text, next, 124) {
-                return Found::Read(next, mid);
-            }
-            match read_or(text, next + 1, left, counts, nodes, mid) {
-                Found::Refused(k, place) => Found::Refused(k, place),
-                Found::Read(end, last) => {
-                    put_either(nodes, mid - 1, last - 1);
-                    Found::Read(end, last + 1)
-                }
-            }
-        }
+    let first = read_and(text, at, left, counts, nodes, used)?;
+    if !stands(text, first.next, 124) {
+        return Ok(first);
     }
+    let second = read_or(text, first.next + 1, left, counts, nodes, first.used)?;
+    put_either(nodes, first.used - 1, second.used - 1);
+    Ok(Parsed {
+        next: second.next,
+        used: second.used + 1,
+    })
 }
 
 #[cycle(read_and_read_item_read_or)]
@@ -248,26 +244,21 @@ fn read_and(
     counts: &[usize; 4],
     nodes: &mut [usize; 2048],
     used: usize,
-) -> Found
+) -> Result<Parsed, Refusal>
     requires { (at ≤ length text.now) × (length text.now ≤ 512) × (used ≤ at) × Counts counts.now × (length nodes.old ≡ 2048) }
     ensures ranged { Ranged result text.now at used nodes.old nodes.new }
     ensures read_as { ReadAs result conjunction text.now at left counts.now nodes.new }
 {
-    match read_item(text, at, left, counts, nodes, used) {
-        Found::Refused(k, place) => Found::Refused(k, place),
-        Found::Read(next, mid) => {
-            if !stands(text, next, 38) {
-                return Found::Read(next, mid);
-            }
-            match read_and(text, next + 1, left, counts, nodes, mid) {
-                Found::Refused(k, place) => Found::Refused(k, place),
-                Found::Read(end, last) => {
-                    put_both(nodes, mid - 1, last - 1);
-                    Found::Read(end, last + 1)
-                }
-            }
-        }
+    let first = read_item(text, at, left, counts, nodes, used)?;
+    if !stands(text, first.next, 38) {
+        return Ok(first);
     }
+    let second = read_and(text, first.next + 1, left, counts, nodes, first.used)?;
+    put_both(nodes, first.used - 1, second.used - 1);
+    Ok(Parsed {
+        next: second.next,
+        used: second.used + 1,
+    })
 }
 
 #[cycle(read_and_read_item_read_or)]
@@ -278,45 +269,43 @@ fn read_item(
     counts: &[usize; 4],
     nodes: &mut [usize; 2048],
     used: usize,
-) -> Found
+) -> Result<Parsed, Refusal>
     requires { (at ≤ length text.now) × (length text.now ≤ 512) × (used ≤ at) × Counts counts.now × (length nodes.old ≡ 2048) }
     ensures ranged { Ranged result text.now at used nodes.old nodes.new }
     ensures read_as { ReadAs result item text.now at left counts.now nodes.new }
 {
     let from = past_blanks(text, at);
     if from == text.len() {
-        return Found::Refused(17, from);
+        return Err(Fault::FormulaText.at(from));
     }
     match start_of(text[from]) {
-        Start::Nothing => Found::Refused(17, from),
-        Start::Name(code) => read_name(text, from, code, counts, nodes, used),
-        Start::Opening => {
+        None => Err(Fault::FormulaText.at(from)),
+        Some(Start::Name(code)) => read_name(text, from, code, counts, nodes, used),
+        Some(Start::Opening) => {
             if left == 0 {
-                return Found::Refused(18, from);
+                return Err(Fault::FormulaDepth.at(from));
             }
-            match read_or(text, from + 1, left - 1, counts, nodes, used) {
-                Found::Refused(k, place) => Found::Refused(k, place),
-                Found::Read(next, last) => close_item(text, next, last),
-            }
+            let inner = read_or(text, from + 1, left - 1, counts, nodes, used)?;
+            close_item(text, inner.next, inner.used)
         }
     }
 }
 
 // The formula of a text of at most 512 bytes over a query with so many literals of each section, or the text's first fault.
-pub fn read_text(text: &[u8], counts: &[usize; 4], nodes: &mut [usize; 2048]) -> Found
+pub fn read_text(
+    text: &[u8],
+    counts: &[usize; 4],
+    nodes: &mut [usize; 2048],
+) -> Result<Parsed, Refusal>
     requires { (length text.now ≤ 512) × Counts counts.now × (length nodes.old ≡ 2048) }
     ensures ranged { Ranged result text.now 0 0 nodes.old nodes.new }
     ensures found_as { FoundAs result text.now nodes.new (read_text (has counts.now) 32 text.now) }
 {
-    match read_or(text, 0, 32, counts, nodes, 0) {
-        Found::Refused(k, place) => Found::Refused(k, place),
-        Found::Read(next, last) => {
-            if next < text.len() {
-                return Found::Refused(17, next);
-            }
-            Found::Read(next, last)
-        }
+    let parsed = read_or(text, 0, 32, counts, nodes, 0)?;
+    if parsed.next < text.len() {
+        return Err(Fault::FormulaText.at(parsed.next));
     }
+    Ok(parsed)
 }
 
 // The literals of conjunction k, counted from 0, of the formula at node i: "an and varies its right side fastest".

@@ -220,6 +220,3 @@ module _ (total : ℕ) (counts : List ℕ) where
 
 pub divisor_positive : {g count total : ℕ} → g ≡ gcd count total → 0 < count → count ≤ total → 0 < g
 divisor_positive {count = count} {total = total} e h l = subst (λ (n : ℕ). 0 < n) (sym e) (g_positive count total h l)
-
-pub share_as : {a b : ℕ} (total : ℕ) → a ≡ b → fraction_text (share a total) ≡ fraction_text (share b total)
-share_as total e = ap (λ (c : ℕ). fraction_text (share c total)) e

@@ -24,7 +24,7 @@ fn put_share(buffer: &mut [u8], at: usize, count: usize, total: usize) -> usize
     requires { (at ≤ 1000) × (count ≤ total) }
     ensures { Writes buffer.old at (fraction_text (share count total)) buffer.new result × (result ≤ at + 42) }
 {
-    if count < 1 {
+    if count == 0 {
         return text::put_bytes(buffer, at, b"0/1\n");
     }
     let divisor = gcd_of(count, total);
@@ -36,22 +36,13 @@ fn put_share(buffer: &mut [u8], at: usize, count: usize, total: usize) -> usize
     text::put_byte(buffer, end, b'\n')
 }
 
-// A count as a wider number.
-fn wide(x: u32) -> usize
-    ensures { (result ≡ x) × (result < 4294967296) }
-{
-    x as usize
-}
-
 // "all tallied rule lines"
 fn total_of(counts: [u32; 8]) -> usize
     ensures { (result ≡ total_of counts) × (length counts ≡ 8) }
 {
     let mut sum: usize = 0;
-    let mut k: usize = 0;
-    while k < 8 {
-        sum += wide(counts[k]);
-        k += 1;
+    for count in &counts {
+        sum += *count as usize;
     }
     sum
 }
@@ -62,10 +53,8 @@ pub fn put_shares(buffer: &mut [u8], counts: [u32; 8]) -> usize
 {
     let total = total_of(counts);
     let mut to: usize = 0;
-    let mut k: usize = 0;
-    while k < 8 {
-        to = put_share(buffer, to, wide(counts[k]), total);
-        k += 1;
+    for count in &counts {
+        to = put_share(buffer, to, *count as usize, total);
     }
     to
 }

@@ -3,20 +3,26 @@ use Prim.Native.Nat.{ℕ}
 use mathlib.Core.Path.{◌≡◌, sym, subst}
 use mathlib.Core.Bool.{Bool, true, false, cond}
 use lib.Dec.{ltb}
+use Rattle.std.specs.Prelude.{Option, Some, None}
 use Rattle.logic.specs.Facts.{Facts}
-use Rattle.rules.specs.declared.Choice.{Choice}
-use Rattle.units.specs.Proposes.{Proposes}
-use Rattle.gains.specs.Keeps.{better}
+use Rattle.rules.specs.declared.Move.{Move}
+use Rattle.units.specs.Proposes.{Applies}
+use Rattle.gains.specs.Keeps.{better, ProposesBest}
 use Rattle.gains.specs.declared.Best.{Best}
 
-module _ (n : ℕ) (s : Facts) (best u : Best) where
-  pub kept_same : u ≡ best → Proposes n s best.place → Proposes n s u.place
-  kept_same e h = subst (λ (b : Best). Proposes n s b.place) (sym e) h
+module _ (n : ℕ) (s : Facts) (best u : Option Best) where
+  pub kept_same : u ≡ best → ProposesBest n s best → ProposesBest n s u
+  kept_same e h = subst (ProposesBest n s) (sym e) h
 
-  pub kept_better : (score : ℕ) (place : Choice) → u ≡ better best score place → Proposes n s best.place → Proposes n s place → Proposes n s u.place
+  taken : (score : ℕ) (place : Move) (b : Best) → Applies n s b.place → Applies n s place → (t : Bool) →
+      ProposesBest n s (cond t (Some (record { score = score; place = place })) (Some b))
+  taken score place b h k true = k
+  taken score place b h k false = h
+
+  either : (score : ℕ) (place : Move) (o : Option Best) → ProposesBest n s o → Applies n s place → ProposesBest n s (better o score place)
   unfolding better
-  kept_better score place e h k = subst (λ (b : Best). Proposes n s b.place) (sym e) (either (ltb best.score score))
-    where
-      either : (b : Bool) → Proposes n s (cond b (record { score = score; place = place }) best).place
-      either true = k
-      either false = h
+  either score place None h k = k
+  either score place (Some b) h k = taken score place b h k (ltb b.score score)
+
+  pub kept_better : (score : ℕ) (place : Move) → u ≡ better best score place → ProposesBest n s best → Applies n s place → ProposesBest n s u
+  kept_better score place e h k = subst (ProposesBest n s) (sym e) (either score place best h k)

@@ -2,24 +2,24 @@
 // no other place would add more is not, since no verdict rests on it.
 #![tactic(auto)]
 
-ghost use Rattle.std.specs.Prelude.{◌≡◌, List, ℕ, ◌≤◌, length};
+ghost use Rattle.std.specs.Prelude.{◌≡◌, ℕ, ◌≤◌, length};
 ghost use Rattle.logic.specs.Search.{from, select};
 ghost use Rattle.rows.specs.Bits.{bit};
-ghost use Rattle.rows.specs.Square.{Turned};
 ghost use Rattle.facts.specs.Path.{path_of};
 ghost use Rattle.units.specs.Proposes.{Proposes};
 ghost use Rattle.gains.specs.Keeps.{better, Keeps};
 
 use facts::Facts;
 use link_rows::Link;
-use rows::{Found, Term};
-use rules::{Choice, Rule, Third};
+use rows::Term;
+use rules::{Move, Rule, Third};
+use units::Graph;
 
-// The best place so far, and its score: 0 as long as there is none.
-#[derive(Drop)]
+// A place and its score.
+#[derive(Clone, Copy)]
 struct Best {
     pub score: usize,
-    pub place: Choice,
+    pub place: Move,
 }
 
 // How many numbers up to 16 a row has.
@@ -33,166 +33,141 @@ fn ones(row: u32) -> usize
 fn product(a: usize, b: usize) -> usize
     ensures { result ≤ 10000000000 }
 {
-    if 100000 < a {
-        return 10000000000;
-    }
-    if 100000 < b {
+    if 100000 < a || 100000 < b {
         return 10000000000;
     }
     a * b
 }
 
 // The facts that "a reaches b" can add, and one.
-fn added(reach: &[u32; 17], back: &[u32; 17], a: usize, b: usize) -> usize
+fn added(graph: &Graph, a: usize, b: usize) -> usize
     requires { (a ≤ 16) × (b ≤ 16) }
     ensures { result ≤ 10000000001 }
 {
-    product(ones(back[a]), ones(reach[b])) + 1
+    product(ones(graph.back[a]), ones(graph.reach[b])) + 1
 }
 
 // The facts that a = b can add, and one.
-fn joined(reach: &[u32; 17], back: &[u32; 17], a: usize, b: usize) -> usize
+fn joined(graph: &Graph, a: usize, b: usize) -> usize
     requires { (a ≤ 16) × (b ≤ 16) }
     ensures { result ≤ 20000000001 }
 {
-    2 * product(ones(back[a] | back[b]), ones(reach[a] | reach[b])) + 1
+    2 * product(
+        ones(graph.back[a] | graph.back[b]),
+        ones(graph.reach[a] | graph.reach[b]),
+    ) + 1
 }
 
-// The better of the best place so far and another.
-fn better(best: Best, score: usize, place: Choice) -> Best
-    ensures { result ≡ better best score place }
+// A place is offered: it is the best from now on if none was, or one of a lower score.
+fn offer(best: &mut Option<Best>, score: usize, place: Move)
+    ensures { best.new ≡ better best.old score place }
 {
-    if best.score < score {
-        return Best { score, place };
+    if let Some(b) = *best {
+        if score <= b.score {
+            return;
+        }
     }
-    best
+    *best = Some(Best { score, place });
 }
 
 // FUNC: x = z or y reaches z.
-fn func(k: Link, link: &[u32; 17], reach: &[u32; 17], back: &[u32; 17], before: Best) -> Best
-    ensures { (n : ℕ) → Keeps n k link.now reach.now before result }
+fn func(graph: &Graph, best: &mut Option<Best>)
+    ensures { (n : ℕ) → Keeps n graph.now best.old best.new }
 {
-    let mut best = before;
     for x in 0..17 {
-        if let Found::At(y) = units::lowest(link[x]) {
-            let at = y.0;
-            let far = units::missed(reach, x, at);
-            for z in 0..17 {
-                if rows::has(far, z) {
-                    let score = product(joined(reach, back, x, z), added(reach, back, at, z));
-                    let place = Choice::Apply(k, Rule::Func, Term(x), y, Third(z));
-                    let next = better(best, score, place);
-                    best = next;
-                }
+        let Some(y) = units::lowest(graph.link[x]) else {
+            continue;
+        };
+        let far = graph.missed(x, y.0);
+        for z in 0..17 {
+            if rows::has(far, z) {
+                let score = product(joined(graph, x, z), added(graph, y.0, z));
+                offer(best, score, graph.at(Rule::Func, Term(x), y, Third(z)));
             }
         }
     }
-    best
 }
 
 // CYCLE: y is one of the round of x. It has as many alternatives as the round has terms, and its score is low.
-fn cycle(k: Link, link: &[u32; 17], reach: &[u32; 17], n: usize, before: Best) -> Best
+fn cycle(graph: &Graph, n: usize, best: &mut Option<Best>)
     requires { n ≤ 16 }
-    ensures { Keeps n k link.now reach.now before result }
+    ensures { Keeps n graph.now best.old best.new }
 {
-    let mut best = before;
     for x in 0..17 {
-        let round = units::around(link, reach, n, x);
-        if let Found::At(y) = units::lowest(round.off) {
-            let place = Choice::Apply(k, Rule::Cycle, Term(x), y, Third(round.steps));
-            let next = better(best, 50, place);
-            best = next;
+        let Some(round) = graph.around(n, x) else {
+            continue;
+        };
+        if let Some(y) = units::lowest(round.off) {
+            offer(
+                best,
+                50,
+                graph.at(Rule::Cycle, Term(x), y, Third(round.steps)),
+            );
         }
     }
-    best
 }
 
 // SCC: x = y or z reaches x.
-fn scc(k: Link, reach: &[u32; 17], back: &[u32; 17], before: Best) -> Best
-    requires { Turned back.now reach.now }
-    ensures { (n : ℕ) (link : List ℕ) → Keeps n k link reach.now before result }
+fn scc(graph: &Graph, best: &mut Option<Best>)
+    ensures { (n : ℕ) → Keeps n graph.now best.old best.new }
 {
-    let mut best = before;
     for x in 0..17 {
-        let both = units::both_ways(reach, back, x);
-        if let Found::At(z) = units::lowest(units::ahead(reach, back, x)) {
-            let out = z.0;
-            for y in 0..17 {
-                if rows::has(both, y) {
-                    let score = product(joined(reach, back, x, y), added(reach, back, out, x));
-                    let place = Choice::Apply(k, Rule::Scc, Term(x), Term(y), Third(out));
-                    let next = better(best, score, place);
-                    best = next;
-                }
+        let both = graph.both_ways(x);
+        let Some(out) = units::lowest(graph.ahead(x)) else {
+            continue;
+        };
+        for y in 0..17 {
+            if rows::has(both, y) {
+                let score = product(joined(graph, x, y), added(graph, out.0, x));
+                offer(
+                    best,
+                    score,
+                    graph.at(Rule::Scc, Term(x), Term(y), Third(out.0)),
+                );
             }
         }
     }
-    best
 }
 
 // TOTAL of y with z, which some x reaches both: y reaches z or z reaches y.
-fn total_at(k: Link, reach: &[u32; 17], back: &[u32; 17], y: usize, before: Best) -> Best
-    requires { (y ≤ 16) × Turned back.now reach.now }
-    ensures { (n : ℕ) (link : List ℕ) → Keeps n k link reach.now before result }
+fn total_at(graph: &Graph, y: usize, best: &mut Option<Best>)
+    requires { y ≤ 16 }
+    ensures { (n : ℕ) → Keeps n graph.now best.old best.new }
 {
-    let mut best = before;
-    let from = back[y];
-    let near = reach[y] | from;
+    let from = graph.back[y];
+    let near = graph.reach[y] | from;
     for z in 0..17 {
-        if !rows::has(near, z) {
-            if let Found::At(x) = units::lowest(from & back[z]) {
-                let score = product(added(reach, back, y, z), added(reach, back, z, y));
-                let place = Choice::Apply(k, Rule::Total, x, Term(y), Third(z));
-                let next = better(best, score, place);
-                best = next;
-            }
+        if rows::has(near, z) {
+            continue;
+        }
+        if let Some(x) = units::lowest(from & graph.back[z]) {
+            let score = product(added(graph, y, z), added(graph, z, y));
+            offer(best, score, graph.at(Rule::Total, x, Term(y), Third(z)));
         }
     }
-    best
 }
 
-fn total(k: Link, reach: &[u32; 17], back: &[u32; 17], before: Best) -> Best
-    requires { Turned back.now reach.now }
-    ensures { (n : ℕ) (link : List ℕ) → Keeps n k link reach.now before result }
-{
-    let mut best = before;
-    for y in 0..17 {
-        let next = total_at(k, reach, back, y, best);
-        best = next;
-    }
-    best
-}
-
-// The better of the best place so far and those by link k, whose rows are lent.
-fn most_at(k: Link, link: &[u32; 17], reach: &[u32; 17], n: usize, before: Best) -> Best
+// The best place so far, or a better one by this link.
+fn most_by(graph: &Graph, n: usize, best: &mut Option<Best>)
     requires { n ≤ 16 }
-    ensures { Keeps n k link.now reach.now before result }
+    ensures { Keeps n graph.now best.old best.new }
 {
-    let back = rows::turned(reach);
-    let a = func(k, link, reach, &back, before);
-    let b = cycle(k, link, reach, n, a);
-    let c = scc(k, reach, &back, b);
-    total(k, reach, &back, c)
+    func(graph, best);
+    cycle(graph, n, best);
+    scc(graph, best);
+    for y in 0..17 {
+        total_at(graph, y, best);
+    }
 }
 
 // The place at a closed path whose alternatives would add most, by any link.
-pub fn most(s: Facts, n: usize) -> Choice
+pub fn most(s: &Facts, n: usize) -> Option<Move>
     requires { n ≤ 16 }
-    ensures { Proposes n (path_of s) result }
+    ensures { Proposes n (path_of s.now) result }
 {
-    let total = facts::links(s.single);
-    let mut best = Best {
-        score: 0,
-        place: Choice::Nothing,
-    };
-    let mut k: usize = 1;
-    while k <= total {
-        let link = link_rows::rows_of(&s.link, Link(k));
-        let reach = link_rows::rows_of(&s.reach, Link(k));
-        let next = most_at(Link(k), &link, &reach, n, best);
-        best = next;
-        k += 1;
+    let mut best = None;
+    for k in 1..s.links() + 1 {
+        most_by(&Graph::of(s, Link(k)), n, &mut best);
     }
-    let place = best.place;
-    place
+    best.map(|b| b.place)
 }

@@ -10,7 +10,7 @@ ghost use Rattle.completion.specs.Links.{link_of};
 use rows::Term;
 
 // A node of the heap by its number.
-#[derive(Clone, Copy)]
+#[derive(Clone, Copy, PartialEq, Eq)]
 pub struct Node(pub usize);
 
 // The terms that are nodes: those not replaced. With no terms, the one node is that of 0, which is no term.
@@ -20,13 +20,10 @@ pub fn mark_nodes(rep: &[u8; 17], n: usize) -> [bool; 17]
 {
     let mut marks = [false; 17];
     let mut none = true;
-    let mut t: usize = 1;
-    while t <= n {
-        let to = rows::wide(rep[t]);
-        let stands = to == t;
+    for t in 1..n + 1 {
+        let stands = usize::from(rep[t]) == t;
         marks[t] = stands;
-        none = none & !stands;
-        t += 1;
+        none &= !stands;
     }
     marks[0] = none;
     marks
@@ -38,12 +35,10 @@ pub fn count_marks(marks: &[bool; 17], n: usize) -> usize
     ensures { result ≡ length (marked marks.now n) }
 {
     let mut count: usize = 0;
-    let end = n + 1;
-    for t in 0..end {
-        if !marks[t] {
-            continue;
+    for t in 0..n + 1 {
+        if marks[t] {
+            count += 1;
         }
-        count += 1;
     }
     count
 }
@@ -56,13 +51,11 @@ pub fn number_nodes(marks: &[bool; 17], n: usize, m: usize) -> [u8; 17]
     let last = m as u8;
     let mut nodes = [last; 17];
     let mut k: usize = 0;
-    let end = n + 1;
-    for t in 0..end {
-        if !marks[t] {
-            continue;
+    for t in 0..n + 1 {
+        if marks[t] {
+            k += 1;
+            nodes[t] = k as u8;
         }
-        k += 1;
-        nodes[t] = k as u8;
     }
     nodes
 }
@@ -72,8 +65,7 @@ pub fn node_of(nodes: &[u8; 17], t: Term) -> Node
     requires { t.0 ≤ 16 }
     ensures { (result.0 ≡ node_of nodes.now t.0) × (result.0 < 256) }
 {
-    let at = t.0;
-    Node(rows::wide(nodes[at]))
+    Node(usize::from(nodes[t.0]))
 }
 
 // The node of the term that each number to n links to.
@@ -82,12 +74,9 @@ pub fn nodes_linked(nodes: &[u8; 17], links: &[u8; 17], n: usize) -> [u8; 17]
     ensures { (t : ℕ) → t ≤ n → get_or result t 0 ≡ node_of nodes.now (link_of links.now t) }
 {
     let mut bytes = [0u8; 17];
-    let mut t: usize = 0;
-    while t <= n {
-        let to = rows::wide(links[t]);
-        let node = node_of(nodes, Term(to));
+    for t in 0..n + 1 {
+        let node = node_of(nodes, Term(usize::from(links[t])));
         bytes[t] = node.0 as u8;
-        t += 1;
     }
     bytes
 }
@@ -98,11 +87,9 @@ pub fn nodes_of_terms(nodes: &[u8; 17], rep: &[u8; 17], n: usize) -> [u8; 17]
     ensures { (t : ℕ) → 1 ≤ t → t ≤ n → get_or result t 0 ≡ node_of nodes.now (rep_of rep.now t) }
 {
     let mut bytes = [0u8; 17];
-    let mut t: usize = 1;
-    while t <= n {
+    for t in 1..n + 1 {
         let node = node_of(nodes, facts::read_rep(rep, Term(t)));
         bytes[t] = node.0 as u8;
-        t += 1;
     }
     bytes
 }
@@ -119,13 +106,11 @@ pub fn put_nodes(
     requires { (n ≤ 16) × (at + length (marked marks.now n) ≤ length buffer.old) × Numbers nodes.now (marked marks.now n) }
     ensures { Appends buffer.old buffer.new at (map (λ t. get_or bytes.now t 0) (marked marks.now n)) }
 {
-    let end = n + 1;
-    for t in 0..end {
-        if !marks[t] {
-            continue;
+    for t in 0..n + 1 {
+        if marks[t] {
+            let node = node_of(nodes, Term(t));
+            let to = at + node.0 - 1;
+            buffer[to] = bytes[t];
         }
-        let node = node_of(nodes, Term(t));
-        let to = at + node.0 - 1;
-        buffer[to] = bytes[t];
     }
 }

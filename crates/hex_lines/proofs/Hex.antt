@@ -5,7 +5,7 @@ use native.Mathlib.Numerals.{add-one}
 use mathlib.Core.Path.{◌≡◌, refl, sym, ap, ◌∙◌}
 use mathlib.Core.List.{List, [], ◌∷◌, ◌++◌, map}
 use lib.ListN.{length, get_or, take, drop, length-drop, drop_of_length-le}
-use lib.Seq.{drop-cons}
+use lib.Seq.{drop-cons, take_all}
 use Rattle.text.specs.Text.{ascii, hex_byte}
 use Rattle.wording.specs.Words.{behind, line_of}
 use Rattle.wording.proofs.Texts.{behind-length}
@@ -26,6 +26,16 @@ module _ (bytes : List ℕ) (i : ℕ) where
 
   pub left-length : length (left bytes i) ≡ 3 * (length bytes - i) + 1
   left-length = behind-length (drop i bytes) ∙ ap (λ (k : ℕ). 3 * k + 1) (length-drop i bytes)
+
+module _ (bytes : List ℕ) where
+  all_behind : take (length bytes - 1) (drop 1 bytes) ≡ drop 1 bytes
+  all_behind = take_all (length bytes - 1) (drop 1 bytes) (omega (arith, length-drop 1 bytes))
+
+  pub behind_first : behind (map hex_byte (take (length bytes - 1) (drop 1 bytes))) ≡ left bytes 1
+  behind_first = ap (λ (xs : List ℕ). behind (map hex_byte xs)) all_behind
+
+  pub behind_few : {n : ℕ} → length bytes ≤ n → length (take (length bytes - 1) (drop 1 bytes)) ≤ n
+  behind_few h = omega (arith, ap length all_behind, length-drop 1 bytes)
 
 pub hex_none : (bytes : List ℕ) → length bytes ≡ 0 → ascii "\n" ≡ hex_line bytes
 unfolding hex_line line_of

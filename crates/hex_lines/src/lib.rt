@@ -1,22 +1,20 @@
 // Bytes in hex digits: a query, and a literal with where it stands (02, R-12).
 #![tactic(auto)]
 
-ghost use Rattle.std.specs.Prelude.{◌++◌, map, ◌≤◌, length, drop};
+ghost use Rattle.std.specs.Prelude.{◌++◌, map, ◌≤◌, length};
 ghost use Rattle.text.specs.Text.{Writes, ascii, decimal, hex_byte};
 ghost use Rattle.wording.specs.Words.{behind};
 ghost use Rattle.hex_lines.specs.HexLines.{hex_line};
 
-// Bytes from a place on in hex digits, a blank before each, and a newline.
-fn put_behind(buffer: &mut [u8], at: usize, bytes: &[u8], first: usize) -> usize
-    requires { (at ≤ 1000) × (first ≤ length bytes.now) × (length bytes.now ≤ 100000) }
-    ensures { Writes buffer.old at (behind (map hex_byte (drop first bytes.now))) buffer.new result }
+// Bytes in hex digits, a blank before each, and a newline.
+fn put_behind(buffer: &mut [u8], at: usize, bytes: &[u8]) -> usize
+    requires { (at ≤ 1000) × (length bytes.now ≤ 100000) }
+    ensures { Writes buffer.old at (behind (map hex_byte bytes.now)) buffer.new result }
 {
     let mut to = at;
-    let mut i = first;
-    while i < bytes.len() {
+    for byte in bytes {
         to = text::put_byte(buffer, to, b' ');
-        to = text::put_hex_byte(buffer, to, bytes[i]);
-        i += 1;
+        to = text::put_hex_byte(buffer, to, *byte);
     }
     text::put_byte(buffer, to, b'\n')
 }
@@ -26,11 +24,11 @@ pub fn put_hex_line(buffer: &mut [u8], at: usize, bytes: &[u8]) -> usize
     requires { (at ≤ 900) × (length bytes.now ≤ 100000) }
     ensures { Writes buffer.old at (hex_line bytes.now) buffer.new result }
 {
-    if bytes.len() == 0 {
+    if bytes.is_empty() {
         return text::put_byte(buffer, at, b'\n');
     }
     let to = text::put_hex_byte(buffer, at, bytes[0]);
-    put_behind(buffer, to, bytes, 1)
+    put_behind(buffer, to, &bytes[1..])
 }
 
 // Where a literal stands, and its bytes.

@@ -1,7 +1,7 @@
 -- The texts as they are written, part by part. Assumes nothing.
 use Prim.Native.Nat.{ℕ, ◌+◌, ◌-◌, ◌*◌, ◌≤◌, ◌<◌, min}
 use native.Mathlib.Omega.{arith}
-use mathlib.Core.Path.{◌≡◌, refl, sym, ap, subst, ◌∙◌}
+use mathlib.Core.Path.{◌≡◌, refl, sym, ap, ◌∙◌}
 use mathlib.Core.Bool.{Bool, true, false, cond}
 use mathlib.Core.List.{List, [], ◌∷◌, ◌++◌}
 use mathlib.Core.Option.{Option, none, some, Option-elim}
@@ -10,7 +10,6 @@ use lib.Dec.{eqb}
 use borrow.Author.Tests.{lt-ltb, le-ltb}
 use Rattle.text.specs.Text.{ascii, decimal}
 use Rattle.text.proofs.Writing.{writes_taken}
-use Rattle.wording.specs.Words.{refused_text}
 use Rattle.checking.specs.CheckCall.{count_in}
 use Rattle.hex_lines.specs.HexLines.{hex_line}
 use Rattle.decimal_lines.specs.DecimalLines.{begins, numbers_from, newline_in, newlines}
@@ -19,15 +18,17 @@ use Rattle.check_printing.proofs.Answers.{numbers_length, query_read, rest-whole
 use Rattle.joining.specs.Call.{Outcome, join_call}
 use Rattle.joining.specs.HandBack.{hand_back_call, part_of}
 use Rattle.joining.proofs.Calls.{join_length}
-use Rattle.joiner.specs.Promise.{meaning, Does, handed, Inside}
-use Rattle.joiner.specs.declared.JoinAnswer.{JoinAnswer}
-use Rattle.joiner.specs.declared.JoinAnswer.TheVariants as answer
+use Rattle.joiner.specs.Promise.{meaning, Does, handed}
+use Rattle.std.specs.Prelude.{Result, Ok, Err}
+use Rattle.joiner.specs.declared.JoinRefusal.{JoinRefusal}
+use Rattle.joiner.specs.declared.JoinRefusal.TheVariants as refusal
+use Rattle.join_printing.specs.Refused.{refusal_words}
 use Rattle.joiner.specs.declared.HandBack.{HandBack}
 use Rattle.joiner.specs.declared.HandBack.TheVariants as back
 use Rattle.join_printing.specs.JoinText.{query_in, behind_query, answer_text, joined_text, part_text, handed_text, line_in, told_text, joinqueries_text}
 
 -- what the joining call answers and leaves
-module _ (first second pairs : List ℕ) (room : ℕ) (bytes : List ℕ) (r : JoinAnswer) (does : Does (join_call first second pairs room) r bytes) (full : room ≡ 561) where
+module _ (first second pairs : List ℕ) (room : ℕ) (bytes : List ℕ) (r : Result ℕ JoinRefusal) (does : Does (join_call first second pairs room) r bytes) (full : room ≡ 561) where
   joined_told : joined_text first second pairs ≡ answer_text (meaning r) bytes
   unfolding joined_text
   joined_told =
@@ -38,68 +39,49 @@ module _ (first second pairs : List ℕ) (room : ℕ) (bytes : List ℕ) (r : Jo
       text : Outcome → List ℕ
       text o = answer_text o.answer o.lent
 
-  told_as : {a : JoinAnswer} → r ≡ a → answer_text (meaning a) bytes ≡ joined_text first second pairs
-  told_as e = sym (joined_told ∙ ap (λ (a : JoinAnswer). answer_text (meaning a) bytes) e)
+  told_as : {a : Result ℕ JoinRefusal} → r ≡ a → answer_text (meaning a) bytes ≡ joined_text first second pairs
+  told_as e = sym (joined_told ∙ ap (λ (a : Result ℕ JoinRefusal). answer_text (meaning a) bytes) e)
 
   -- what is written lies in the buffer
-  pub written_within : (n : ℕ) → r ≡ answer.Written n → n ≤ 561
+  pub written_within : (n : ℕ) → r ≡ Ok n → n ≤ 561
   written_within n e = (join_length first second pairs room n (sym does.answers ∙ ap meaning e)).0
 
-  pub written_text : (n : ℕ) → r ≡ answer.Written n → hex_line (take n bytes) ≡ joined_text first second pairs
+  pub written_text : (n : ℕ) → r ≡ Ok n → hex_line (take n bytes) ≡ joined_text first second pairs
   unfolding answer_text
   written_text n e = told_as e
 
-  pub first-text : (k place : ℕ) → r ≡ answer.FirstRefused k place → refused_text k place ++ ascii " of the first query\n" ≡ joined_text first second pairs
+  pub refused_text_lem : (x : JoinRefusal) → r ≡ Err x → refusal_words x ≡ joined_text first second pairs
   unfolding answer_text
-  first-text k place e = told_as e
-
-  pub second-text : (k place : ℕ) → r ≡ answer.SecondRefused k place → refused_text k place ++ ascii " of the second query\n" ≡ joined_text first second pairs
-  unfolding answer_text
-  second-text k place e = told_as e
-
-  pub refused_text_lem : (k place : ℕ) → r ≡ answer.Refused k place → refused_text k place ++ ascii "\n" ≡ joined_text first second pairs
-  unfolding answer_text
-  refused_text_lem k place e = told_as e
+  refused_text_lem (refusal.First y) e = told_as e
+  refused_text_lem (refusal.Second y) e = told_as e
+  refused_text_lem (refusal.Neither y) e = told_as e
 
 -- what is handed back
-module _ (first second line : List ℕ) (r : HandBack) (e : handed r ≡ hand_back_call first second line) where
-  handed-as : {a : HandBack} → r ≡ a → part_text (handed a) (part_of (handed a) first second) ≡ handed_text first second line
+module _ (first second line : List ℕ) (r : Result HandBack JoinRefusal) (e : handed r ≡ hand_back_call first second line) where
+  handed-as : {a : Result HandBack JoinRefusal} → r ≡ a → part_text (handed a) (part_of (handed a) first second) ≡ handed_text first second line
   unfolding handed_text
   handed-as {a} f =
-      ap (λ (b : HandBack). part_text (handed b) (part_of (handed b) first second)) (sym f) ∙ ap (λ (h : _). part_text h (part_of h first second)) e
+      ap (λ (b : Result HandBack JoinRefusal). part_text (handed b) (part_of (handed b) first second)) (sym f) ∙ ap (λ (h : _). part_text h (part_of h first second)) e
 
-  pub in_first : (at size end : ℕ) → r ≡ back.InFirst at size → end ≡ at + size →
+  pub in_first : (at size end : ℕ) → r ≡ Ok (back.InFirst at size) → end ≡ at + size →
       ascii "first query at " ++ (decimal at ++ (ascii ": " ++ hex_line (take (end - at) (drop at first)))) ≡ handed_text first second line
   unfolding part_text part_of
   in_first at size end f g =
       let n : end - at ≡ size = omega arith in
       ap (λ (k : ℕ). ascii "first query at " ++ (decimal at ++ (ascii ": " ++ hex_line (take k (drop at first))))) n ∙ handed-as f
 
-  pub in_second : (at size end : ℕ) → r ≡ back.InSecond at size → end ≡ at + size →
+  pub in_second : (at size end : ℕ) → r ≡ Ok (back.InSecond at size) → end ≡ at + size →
       ascii "second query at " ++ (decimal at ++ (ascii ": " ++ hex_line (take (end - at) (drop at second)))) ≡ handed_text first second line
   unfolding part_text part_of
   in_second at size end f g =
       let n : end - at ≡ size = omega arith in
       ap (λ (k : ℕ). ascii "second query at " ++ (decimal at ++ (ascii ": " ++ hex_line (take k (drop at second))))) n ∙ handed-as f
 
-  pub first_refused : (k place : ℕ) → r ≡ back.FirstRefused k place → refused_text k place ++ ascii " of the first query\n" ≡ handed_text first second line
+  pub hand_refused : (x : JoinRefusal) → r ≡ Err x → refusal_words x ≡ handed_text first second line
   unfolding part_text part_of
-  first_refused k place f = handed-as f
-
-  pub second_refused : (k place : ℕ) → r ≡ back.SecondRefused k place → refused_text k place ++ ascii " of the second query\n" ≡ handed_text first second line
-  unfolding part_text part_of
-  second_refused k place f = handed-as f
-
-  pub hand_refused : (k place : ℕ) → r ≡ back.Refused k place → refused_text k place ++ ascii "\n" ≡ handed_text first second line
-  unfolding part_text part_of
-  hand_refused k place f = handed-as f
-
--- a part lies in its query
-pub inside_first : {r : HandBack} {at size : ℕ} (first second : ℕ) → r ≡ back.InFirst at size → Inside first second r → at + size ≤ first
-inside_first {r} first second e i = subst (λ (a : HandBack). Inside first second a) e i
-
-pub inside_second : {r : HandBack} {at size : ℕ} (first second : ℕ) → r ≡ back.InSecond at size → Inside first second r → at + size ≤ second
-inside_second {r} first second e i = subst (λ (a : HandBack). Inside first second a) e i
+  hand_refused (refusal.First y) f = handed-as f
+  hand_refused (refusal.Second y) f = handed-as f
+  hand_refused (refusal.Neither y) f = handed-as f
 
 -- a line
 newline_few : (c : ℕ) → newline_in c ≤ 1

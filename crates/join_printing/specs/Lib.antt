@@ -1,2 +1,3 @@
 pub mod JoinText
 pub mod Examples
+pub mod Refused

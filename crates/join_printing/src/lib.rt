@@ -2,19 +2,33 @@
 #![tactic(auto)]
 
 ghost use Rattle.std.specs.Prelude.{◌≡◌, ◌++◌, ◌≤◌, length, take};
+ghost use Rattle.refusals.specs.Numbers.{number_of};
 ghost use Rattle.text.specs.Text.{Writes};
 ghost use Rattle.wording.specs.Words.{refused_text};
+ghost use Rattle.join_printing.specs.Refused.{refusal_words};
 ghost use Rattle.join_printing.specs.JoinText.{joined_text, handed_text, line_in, told_text, query_in, behind_query, joinqueries_text};
 
-use joiner::{HandBack, JoinAnswer};
+use joiner::{HandBack, JoinRefusal};
+use refusals::Refusal;
 
 // A refusal, and which query it is about.
-fn put_refusal(buffer: &mut [u8], k: usize, place: usize, about: &[u8]) -> usize
+fn put_about(buffer: &mut [u8], refusal: Refusal, about: &[u8]) -> usize
     requires { length about.now ≤ 100 }
-    ensures { Writes buffer.old 0 (refused_text k place ++ about.now) buffer.new result }
+    ensures { Writes buffer.old 0 (refused_text (number_of refusal.fault) refusal.place ++ about.now) buffer.new result }
 {
-    let end = wording::put_refused(buffer, 0, k, place);
+    let end = wording::put_refused(buffer, 0, refusal.fault.number(), refusal.place);
     text::put_bytes(buffer, end, about)
+}
+
+// A refusal of two queries.
+fn put_refusal(buffer: &mut [u8], refusal: JoinRefusal) -> usize
+    ensures { Writes buffer.old 0 (refusal_words refusal) buffer.new result }
+{
+    match refusal {
+        JoinRefusal::First(e) => put_about(buffer, e, b" of the first query\n"),
+        JoinRefusal::Second(e) => put_about(buffer, e, b" of the second query\n"),
+        JoinRefusal::Neither(e) => put_about(buffer, e, b"\n"),
+    }
 }
 
 // The two queries as one.
@@ -23,14 +37,8 @@ fn put_joined(buffer: &mut [u8], first: &[u8], second: &[u8], pairs: &[u8]) -> u
 {
     let mut out = [0u8; 561];
     match joiner::join(first, second, pairs, &mut out) {
-        JoinAnswer::Written(length) => hex_lines::put_hex_line(buffer, 0, &out[..length]),
-        JoinAnswer::FirstRefused(k, place) => {
-            put_refusal(buffer, k, place, b" of the first query\n")
-        }
-        JoinAnswer::SecondRefused(k, place) => {
-            put_refusal(buffer, k, place, b" of the second query\n")
-        }
-        JoinAnswer::Refused(k, place) => put_refusal(buffer, k, place, b"\n"),
+        Ok(length) => hex_lines::put_hex_line(buffer, 0, &out[..length]),
+        Err(refusal) => put_refusal(buffer, refusal),
     }
 }
 
@@ -40,21 +48,15 @@ fn put_handed(buffer: &mut [u8], first: &[u8], second: &[u8], line: &[u8]) -> us
     ensures { Writes buffer.old 0 (handed_text first.now second.now line.now) buffer.new result }
 {
     match joiner::find_named(first, second, line) {
-        HandBack::InFirst(at, size) => {
+        Ok(HandBack::InFirst(at, size)) => {
             let end = at + size;
             hex_lines::put_in_first(buffer, at, &first[at..end])
         }
-        HandBack::InSecond(at, size) => {
+        Ok(HandBack::InSecond(at, size)) => {
             let end = at + size;
             hex_lines::put_in_second(buffer, at, &second[at..end])
         }
-        HandBack::FirstRefused(k, place) => {
-            put_refusal(buffer, k, place, b" of the first query\n")
-        }
-        HandBack::SecondRefused(k, place) => {
-            put_refusal(buffer, k, place, b" of the second query\n")
-        }
-        HandBack::Refused(k, place) => put_refusal(buffer, k, place, b"\n"),
+        Err(refusal) => put_refusal(buffer, refusal),
     }
 }
 
@@ -89,8 +91,8 @@ fn put_second(buffer: &mut [u8], first: &[u8], input: &[u8]) -> usize
 {
     let n = input.len();
     let size = 256 * tally::byte_at(input, 0) + tally::byte_at(input, 1);
-    let from = check_printing::at_most(n, 2);
-    let to = check_printing::at_most(n, 2 + size);
+    let from = n.min(2);
+    let to = n.min(2 + size);
     put_told(buffer, first, &input[from..to], &input[to..])
 }
 
@@ -101,7 +103,7 @@ pub fn put_text(buffer: &mut [u8], input: &[u8]) -> usize
 {
     let n = input.len();
     let size = 256 * tally::byte_at(input, 0) + tally::byte_at(input, 1);
-    let from = check_printing::at_most(n, 2);
-    let to = check_printing::at_most(n, 2 + size);
+    let from = n.min(2);
+    let to = n.min(2 + size);
     put_second(buffer, &input[from..to], &input[to..])
 }

@@ -14,7 +14,6 @@ use Rattle.logic.specs.Calls.{refused, accepts}
 use Rattle.query.specs.LaysOut.{LaysOut, literal_in}
 use Rattle.query_checks.specs.Answers.{CheckedAs}
 use Rattle.query.specs.declared.Layout.{Layout}
-use Rattle.query_checks.specs.declared.Checked.TheVariants as checked
 use Rattle.query.proofs.Literals.{listed-length, equalities-listed, reachability-listed, fields-listed}
 use Rattle.query_checks.proofs.Checks.{checked-accepts}
 use Rattle.joining.specs.Pairs.{pairs_of, has_terms, is_pair_list}
@@ -22,7 +21,13 @@ use Rattle.joining.specs.Call.{query_refusal}
 use Rattle.joining.specs.HandBack.{Handed, literals_in, start_in, place_in, is_among, hand_back_of, hand_back_call, part_of}
 use Rattle.joining.specs.HandBack as hand
 use Rattle.joining.proofs.Places.{literal-fits}
-use Rattle.joiner.specs.Promise.{handed, Inside, Passing}
+use Rattle.std.specs.Prelude.{Result, Ok, Err}
+use Rattle.refusals.specs.declared.Refusal.{Refusal}
+use Rattle.refusals.specs.declared.Fault.TheVariants as fault
+use Rattle.refusals.specs.Numbers.{number_of, refusal_at}
+use Rattle.joiner.specs.Promise.{handed, Inside, Passing, BothChecked}
+use Rattle.joiner.specs.declared.JoinRefusal.{JoinRefusal}
+use Rattle.joiner.specs.declared.JoinRefusal.TheVariants as refusal
 use Rattle.joiner.specs.declared.HandBack.{HandBack}
 use Rattle.joiner.specs.declared.HandBack.TheVariants as back
 
@@ -130,9 +135,6 @@ among_high : (i m k : ℕ) → i + m < k → is_among i m k ≡ false
 unfolding is_among ◌and◌
 among_high i m k l = rw (lt-ltb i k (omega arith)) (lt-leb k (i + m) l)
 
-abbrev pub InsideOf : ℕ → ℕ → HandBack → Type 0
-InsideOf = Inside
-
 module _ (first second line : List ℕ) (ok₁ : accepts first ≡ true) (ok₂ : accepts second ≡ true) {nine s k : ℕ} (e₀ : nine ≡ get_or line 0 0) (e₁ : s ≡ get_or line 1 0) (e₂ : k ≡ get_or line 2 0) where
   abbrev a : Query
   a = decode first
@@ -140,24 +142,24 @@ module _ (first second line : List ℕ) (ok₁ : accepts first ≡ true) (ok₂ 
   abbrev b : Query
   b = decode second
 
-  abbrev Answers : HandBack → Type 0
+  abbrev Answers : Result HandBack JoinRefusal → Type 0
   Answers r = (handed r ≡ hand_back_of (decode first) (decode second) line) × Inside (length first) (length second) r
 
   -- the counts at the line's own section
   moved : (q : Query) {i : ℕ} → i ≡ length (literals_in q s) → i ≡ length (literals_in q (get_or line 1 0))
   moved q h = h ∙ ap (λ (t : ℕ). length (literals_in q t)) e₁
 
-  pub back_other : (nine ≡ 9 → ⊥) → Answers (back.Refused 25 0)
+  pub back_other : (nine ≡ 9 → ⊥) → Answers (Err (refusal.Neither (refusal_at fault.ClashLine 0)))
   back_other h = (sym (of_tests (decode first) (decode second) line false _ _ (ne_eqb (get_or line 0 0) 9 (λ e. h (e₀ ∙ e))) refl refl), tt)
 
-  pub back_zero : nine ≡ 9 → k ≡ 0 → Answers (back.Refused 25 0)
+  pub back_zero : nine ≡ 9 → k ≡ 0 → Answers (Err (refusal.Neither (refusal_at fault.ClashLine 0)))
   back_zero h z = (
     sym (of_tests (decode first) (decode second) line true false false (eq-eqb (get_or line 0 0) 9 (sym e₀ ∙ h))
         (among_low 0 _ (get_or line 2 0) (omega arith)) (among_low _ _ (get_or line 2 0) (omega arith))),
     tt,
   )
 
-  pub back_first : nine ≡ 9 → {i p : ℕ} → i ≡ length (literals_in (decode first) s) → (k ≡ 0 → ⊥) → k ≤ i → p ≡ place_in (decode first) s k → Answers (back.InFirst p 3)
+  pub back_first : nine ≡ 9 → {i p : ℕ} → i ≡ length (literals_in (decode first) s) → (k ≡ 0 → ⊥) → k ≤ i → p ≡ place_in (decode first) s k → Answers (Ok (back.InFirst p 3))
   back_first h {i} {p} ei one low ep =
       let inside = moved (decode first) ei in
       let at_place : p ≡ place_in (decode first) (get_or line 1 0) (get_or line 2 0) = ep ∙ ap (λ (t : ℕ). place_in (decode first) t k) e₁ ∙ ap (place_in (decode first) (get_or line 1 0)) e₂ in (
@@ -173,7 +175,7 @@ module _ (first second line : List ℕ) (ok₁ : accepts first ≡ true) (ok₂ 
       positive n = omega (arith, positive_own n)
 
   pub back_second : nine ≡ 9 → {i m p : ℕ} → i ≡ length (literals_in (decode first) s) → m ≡ length (literals_in (decode second) s) → i < k →
-      k ≤ i + m → p ≡ place_in (decode second) s (k - i) → Answers (back.InSecond p 3)
+      k ≤ i + m → p ≡ place_in (decode second) s (k - i) → Answers (Ok (back.InSecond p 3))
   back_second h {i} {m} {p} ei em low high ep =
       let first_count = moved (decode first) ei in
       let second_count = moved (decode second) em in
@@ -186,7 +188,7 @@ module _ (first second line : List ℕ) (ok₁ : accepts first ≡ true) (ok₂ 
         omega (arith, ep, literal-fits second ok₂ s (k - i) (omega arith) (omega (arith, em))),
       )
 
-  pub back_past : nine ≡ 9 → {i m : ℕ} → i ≡ length (literals_in (decode first) s) → m ≡ length (literals_in (decode second) s) → i < k → i + m < k → Answers (back.Refused 25 0)
+  pub back_past : nine ≡ 9 → {i m : ℕ} → i ≡ length (literals_in (decode first) s) → m ≡ length (literals_in (decode second) s) → i < k → i + m < k → Answers (Err (refusal.Neither (refusal_at fault.ClashLine 0)))
   back_past h {i} {m} ei em low high =
       let first_count = moved (decode first) ei in
       let second_count = moved (decode second) em in (
@@ -197,59 +199,55 @@ module _ (first second line : List ℕ) (ok₁ : accepts first ≡ true) (ok₂ 
 
 -- The checks of a query
 
-pub refused_query : (bytes : List ℕ) {k place : ℕ} → CheckedAs (checked.Refused k place) bytes → query_refusal bytes ≡ some (refused k place)
+pub refused_query : (bytes : List ℕ) (e : Refusal) → CheckedAs (Err e) bytes → query_refusal bytes ≡ some (refused (number_of e.fault) e.place)
 unfolding query_refusal
-refused_query bytes h = h (record { order = []; query = bytes; room = 0 }) refl
+refused_query bytes e h = h (record { order = []; query = bytes; room = 0 }) refl
 
-pub passed_query : (bytes : List ℕ) {l : Layout} → CheckedAs (checked.Accepted l) bytes → query_refusal bytes ≡ none
+pub passed_query : (bytes : List ℕ) {l : Layout} → CheckedAs (Ok l) bytes → query_refusal bytes ≡ none
 unfolding query_refusal
 passed_query bytes h = h.0 (record { order = []; query = bytes; room = 0 }) refl
 
-pub passing : (l : Layout) (bytes : List ℕ) → CheckedAs (checked.Accepted l) bytes → Passing l bytes
+pub passing : (l : Layout) (bytes : List ℕ) → CheckedAs (Ok l) bytes → Passing l bytes
 passing l bytes h = record { laid = h.1; accepted = checked-accepts l bytes h }
 
 module _ (first second line : List ℕ) where
-  pub named-first : {k place : ℕ} → CheckedAs (checked.Refused k place) first → hand.first_refused k place ≡ hand_back_call first second line
+  pub named-first : (e : Refusal) → CheckedAs (Err e) first → hand.first_refused (number_of e.fault) e.place ≡ hand_back_call first second line
   unfolding hand_back_call hand.of_first Option-elim
-  named-first h = rw (refused_query first h)
+  named-first e h = rw (refused_query first e h)
 
-  pub named-second : {k place : ℕ} {l : Layout} → CheckedAs (checked.Accepted l) first → CheckedAs (checked.Refused k place) second → hand.second_refused k place ≡ hand_back_call first second line
+  pub named-second : (e : Refusal) {l : Layout} → CheckedAs (Ok l) first → CheckedAs (Err e) second → hand.second_refused (number_of e.fault) e.place ≡ hand_back_call first second line
   unfolding hand_back_call hand.of_second Option-elim
-  named-second g h = rw (passed_query first g, refused_query second h)
+  named-second e {l} g h = rw (passed_query first {l = l} g, refused_query second e h)
 
-  pub named_found : {f s : Layout} {r : Handed} → CheckedAs (checked.Accepted f) first → CheckedAs (checked.Accepted s) second →
+  pub named_found : {f s : Layout} {r : Handed} → CheckedAs (Ok f) first → CheckedAs (Ok s) second →
       r ≡ hand_back_of (decode first) (decode second) line → r ≡ hand_back_call first second line
   unfolding hand_back_call Option-elim
   named_found g h e = rw (passed_query first g, passed_query second h) e
 
+  -- the refusal of either
+  pub named_refused : (r : JoinRefusal) → BothChecked (Err r) first second →
+      (handed (Err r) ≡ hand_back_call first second line) × Inside (length first) (length second) (Err r)
+  named_refused (refusal.First e) h = (named-first e h, tt)
+  named_refused (refusal.Second e) h = (named-second e {l = h.0} h.1 h.2, tt)
+  named_refused (refusal.Neither e) h = absurd h
+
   -- the bytes of the part
-  pub part_found : {r w : HandBack} {xs : List ℕ} → handed r ≡ hand_back_call first second line → r ≡ w → xs ≡ part_of (handed w) first second → xs ≡ part_of (hand_back_call first second line) first second
-  part_found e q h = h ∙ ap (λ (x : HandBack). part_of (handed x) first second) (sym q) ∙ ap (λ (x : Handed). part_of x first second) e
-
-  pub part_first : {r : HandBack} {at size : ℕ} → handed r ≡ hand_back_call first second line → r ≡ back.InFirst at size →
-      take (at + size - at) (drop at first) ≡ part_of (hand_back_call first second line) first second
+  pub part_first : {at size : ℕ} → hand.in_first at size ≡ hand_back_call first second line → take (at + size - at) (drop at first) ≡ part_of (hand_back_call first second line) first second
   unfolding part_of
-  part_first {at = at} {size = size} e q = part_found e q (ap (λ (k : ℕ). take k (drop at first)) (left))
+  part_first {at = at} {size = size} e = ap (λ (k : ℕ). take k (drop at first)) left ∙ ap (λ (x : Handed). part_of x first second) e
     where
       left : at + size - at ≡ size
       left = omega arith
 
-  pub part_second : {r : HandBack} {at size : ℕ} → handed r ≡ hand_back_call first second line → r ≡ back.InSecond at size →
-      take (at + size - at) (drop at second) ≡ part_of (hand_back_call first second line) first second
+  pub part_second : {at size : ℕ} → hand.in_second at size ≡ hand_back_call first second line → take (at + size - at) (drop at second) ≡ part_of (hand_back_call first second line) first second
   unfolding part_of
-  part_second {at = at} {size = size} e q = part_found e q (ap (λ (k : ℕ). take k (drop at second)) (left))
+  part_second {at = at} {size = size} e = ap (λ (k : ℕ). take k (drop at second)) left ∙ ap (λ (x : Handed). part_of x first second) e
     where
       left : at + size - at ≡ size
       left = omega arith
 
-  pub empty_first : {r : HandBack} {k place : ℕ} → handed r ≡ hand_back_call first second line → r ≡ back.FirstRefused k place → [] ≡ part_of (hand_back_call first second line) first second
+  pub part_none : (r : JoinRefusal) → handed (Err r) ≡ hand_back_call first second line → [] ≡ part_of (hand_back_call first second line) first second
   unfolding part_of
-  empty_first e q = part_found e q refl
-
-  pub empty_second : {r : HandBack} {k place : ℕ} → handed r ≡ hand_back_call first second line → r ≡ back.SecondRefused k place → [] ≡ part_of (hand_back_call first second line) first second
-  unfolding part_of
-  empty_second e q = part_found e q refl
-
-  pub empty_other : {r : HandBack} {k place : ℕ} → handed r ≡ hand_back_call first second line → r ≡ back.Refused k place → [] ≡ part_of (hand_back_call first second line) first second
-  unfolding part_of
-  empty_other e q = part_found e q refl
+  part_none (refusal.First e) h = ap (λ (x : Handed). part_of x first second) h
+  part_none (refusal.Second e) h = ap (λ (x : Handed). part_of x first second) h
+  part_none (refusal.Neither e) h = ap (λ (x : Handed). part_of x first second) h

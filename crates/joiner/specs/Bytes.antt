@@ -1,10 +1,23 @@
 -- Numbers that fit a byte, also where they are raised.
-use Rattle.std.specs.Prelude.{ℕ, ◌+◌, ◌≤◌, ◌<◌, Bool, ◌&&◌, leb}
+use Rattle.std.specs.Prelude.{ℕ, ◌+◌, ◌*◌, ◌≤◌, ◌<◌, Bool, ◌&&◌, leb, map, length, take, drop}
 use mathlib.Core.List.{List, Memᴰ}
-use Rattle.logic.specs.Query.{Literal}
+use Rattle.logic.specs.Search.{flat_map}
+use Rattle.logic.specs.Query.{Literal, literals}
 use Rattle.query.specs.declared.Layout.{Layout}
 use Rattle.joining.specs.Pairs.{Pair}
-use Rattle.joining.specs.Joined.{raised_entry}
+use Rattle.encoding.specs.QueryBytes.{literal_bytes}
+use Rattle.joining.specs.Joined.{raised_entry, raised}
+use Rattle.joiner.specs.declared.Section.{Section}
+
+-- a section's literals, where it lies in its query, and their bytes, with the numbers raised
+abbrev pub literals_of : Section → List Literal
+literals_of s = literals (take (3 * s.2) (drop s.1 s.0.now))
+
+abbrev pub Lies : Section → Type 0
+Lies s = s.1 + 3 * s.2 ≤ length s.0.now
+
+abbrev pub raised_bytes : ℕ → ℕ → Section → List ℕ
+raised_bytes i j s = flat_map literal_bytes (map (raised i j) (literals_of s))
 
 abbrev pub Small : ℕ → ℕ → List Literal → Type 0
 Small i j ls = (l : Literal) → Memᴰ l ls → (i + l.left < 256) × (j + l.right < 256)

@@ -11,31 +11,34 @@ ghost use Rattle.encoding.specs.QueryBytes.{sign_byte, literal_bytes, encode, wi
 ghost use Rattle.joining.specs.Joined.{raised_entry, raised, pair_literal, joined};
 ghost use Rattle.joining.specs.Call.{join_of, join_call};
 ghost use Rattle.joining.specs.HandBack.{literals_in, start_in, place_in, hand_back_of, hand_back_call, part_of};
-ghost use Rattle.joiner.specs.Bytes.{Small, SmallEntries, SmallPairs, pair_of, Bounded, keeps_limits};
-ghost use Rattle.joiner.specs.Promise.{Does, handed, Inside, Passing};
+ghost use Rattle.joiner.specs.Bytes.{literals_of, Lies, raised_bytes, Small, SmallEntries, SmallPairs, pair_of, Bounded, keeps_limits};
+ghost use Rattle.joiner.specs.Promise.{Does, handed, Inside, Passing, BothChecked};
 
 use query::Layout;
-use query_checks::Checked;
+use refusals::{Fault, Refusal};
 
-// What the joining call answers: the length of the query written, or a refusal's number and place, which is in the first query, in the
-// second, or 0.
-#[derive(Drop)]
-pub enum JoinAnswer {
-    Written(usize),
-    FirstRefused(usize, usize),
-    SecondRefused(usize, usize),
-    Refused(usize, usize),
+// A refusal of two queries: its place is in the first, in the second, or in neither, where it is 0.
+#[derive(Clone, Copy, PartialEq, Eq)]
+pub enum JoinRefusal {
+    First(Refusal),
+    Second(Refusal),
+    Neither(Refusal),
 }
 
-// Where a literal stands: its offset and length in the first query or in the second; or a refusal, likewise.
-#[derive(Drop)]
+// Where a literal stands: its offset and length in the first query or in the second.
+#[derive(Clone, Copy, PartialEq, Eq)]
 pub enum HandBack {
     InFirst(usize, usize),
     InSecond(usize, usize),
-    FirstRefused(usize, usize),
-    SecondRefused(usize, usize),
-    Refused(usize, usize),
 }
+
+// Literals of three bytes: the query that they stand in, where they begin there, and how many they are.
+#[derive(Clone, Copy)]
+struct Section<'a>(&'a [u8], usize, usize);
+
+// How far the numbers of a literal are raised: its left one, and its right one.
+#[derive(Clone, Copy)]
+struct Raise(usize, usize);
 
 // A literal of three bytes.
 fn put_literal(out: &mut [u8], to: usize, plain: bool, left: usize, right: usize) -> usize
@@ -58,27 +61,18 @@ fn put_sign(out: &mut [u8], to: usize, plain: bool) -> usize
     text::put_byte(out, to, 0)
 }
 
-// The literals of a section of three bytes an entry, with numbers raised: the left ones by i, the right ones by j.
-fn put_literals(
-    query: &[u8],
-    at: usize,
-    count: usize,
-    i: usize,
-    j: usize,
-    out: &mut [u8],
-    to: usize,
-) -> usize
-    requires { (at + 3 * count ≤ length query.now) × (to + 3 * count ≤ 1000) × Small i j (literals (take (3 * count) (drop at query.now))) }
-    ensures { Writes out.old to (flat_map literal_bytes (map (raised i j) (literals (take (3 * count) (drop at query.now))))) out.new result }
+// The literals of a section, with numbers raised.
+fn put_literals(section: Section, by: Raise, out: &mut [u8], to: usize) -> usize
+    requires { Lies section × (to + 3 * section.2 ≤ 1000) × Small by.0 by.1 (literals_of section) }
+    ensures { Writes out.old to (raised_bytes by.0 by.1 section.entry) out.new result }
 {
+    let Section(query, at, count) = section;
     let mut next = to;
-    let mut k: usize = 0;
-    while k < count {
+    for k in 0..count {
         let plain = query::sign(query, at, k);
         let left = query::field(query, at, k);
         let right = query::right(query, at, k);
-        next = put_literal(out, next, plain, i + left, j + right.0);
-        k += 1;
+        next = put_literal(out, next, plain, by.0 + left, by.1 + right.0);
     }
     next
 }
@@ -103,11 +97,9 @@ fn put_entries(query: &[u8], count: usize, n: usize, out: &mut [u8], to: usize) 
     ensures { Writes out.old to (map (raised_entry n) (take count (drop 1 query.now))) out.new result }
 {
     let mut next = to;
-    let mut t: usize = 0;
-    while t < count {
+    for t in 0..count {
         let e = entries::byte_at(query, t + 1);
         next = text::put_byte(out, next, raised_entry(n, e) as u8);
-        t += 1;
     }
     next
 }
@@ -118,12 +110,10 @@ fn put_pairs(pairs: &[u8], count: usize, n: usize, out: &mut [u8], to: usize) ->
     ensures { Writes out.old to (flat_map literal_bytes (map (pair_literal n) (pairs_of pairs.now))) out.new result }
 {
     let mut next = to;
-    let mut k: usize = 0;
-    while k < count {
+    for k in 0..count {
         let a = entries::byte_at(pairs, 2 * k + 1);
         let b = entries::byte_at(pairs, 2 * k + 2);
         next = put_literal(out, next, true, a, n + b);
-        k += 1;
     }
     next
 }
@@ -141,25 +131,20 @@ fn put_terms(first: &[u8], n: usize, second: &[u8], m: usize, out: &mut [u8]) ->
 // A section of three bytes an entry: its count, the first's literals, and the second's raised; the count has `more`, which the caller
 // writes behind them.
 fn put_section(
-    first: &[u8],
-    at1: usize,
-    count1: usize,
-    second: &[u8],
-    at2: usize,
-    count2: usize,
-    i: usize,
-    j: usize,
+    first: Section,
+    second: Section,
+    by: Raise,
     more: usize,
     out: &mut [u8],
     to: usize,
 ) -> usize
-    requires count1_in_bounds { (at1 + 3 * count1 ≤ length first.now) × (at2 + 3 * count2 ≤ length second.now) × (count1 + count2 + more ≤ 60) × (to ≤ 600) }
-    requires small { Small 0 0 (literals (take (3 * count1) (drop at1 first.now))) × Small i j (literals (take (3 * count2) (drop at2 second.now))) }
-    ensures { Writes out.old to ((count1 + count2 + more) ∷ (flat_map literal_bytes (map (raised 0 0) (literals (take (3 * count1) (drop at1 first.now)))) ++ flat_map literal_bytes (map (raised i j) (literals (take (3 * count2) (drop at2 second.now)))))) out.new result }
+    requires fits { Lies first × Lies second × (first.2 + second.2 + more ≤ 60) × (to ≤ 600) }
+    requires small { Small 0 0 (literals_of first) × Small by.0 by.1 (literals_of second) }
+    ensures { Writes out.old to ((first.entry.2 + second.entry.2 + more) ∷ (raised_bytes 0 0 first.entry ++ raised_bytes by.0 by.1 second.entry)) out.new result }
 {
-    let begin = text::put_byte(out, to, (count1 + count2 + more) as u8);
-    let next = put_literals(first, at1, count1, 0, 0, out, begin);
-    put_literals(second, at2, count2, i, j, out, next)
+    let begin = text::put_byte(out, to, (first.2 + second.2 + more) as u8);
+    let next = put_literals(first, Raise(0, 0), out, begin);
+    put_literals(second, by, out, next)
 }
 
 // The joined query, section by section; section 5 is the count 0.
@@ -175,45 +160,29 @@ fn put_query(
     ensures { Writes out.old 0 (encode (joined (decode first.now) (decode second.now) (pairs_of pairs.now))) out.new result }
 {
     let n = f.terms;
-    let m = s.terms;
     let count = entries::byte_at(pairs, 0);
-    let second_section = put_terms(first, n, second, m, out);
+    let second_section = put_terms(first, n, second, s.terms, out);
     let last = put_section(
-        first,
-        f.equal_at,
-        f.equal_count,
-        second,
-        s.equal_at,
-        s.equal_count,
-        n,
-        n,
+        Section(first, f.equal_at, f.equal_count),
+        Section(second, s.equal_at, s.equal_count),
+        Raise(n, n),
         count,
         out,
         second_section,
     );
     let third_section = put_pairs(pairs, count, n, out, last);
     let fourth_section = put_section(
-        first,
-        f.reach_at,
-        f.reach_count,
-        second,
-        s.reach_at,
-        s.reach_count,
-        n,
-        n,
+        Section(first, f.reach_at, f.reach_count),
+        Section(second, s.reach_at, s.reach_count),
+        Raise(n, n),
         0,
         out,
         third_section,
     );
     let fifth_section = put_section(
-        first,
-        f.field_at,
-        f.field_count,
-        second,
-        s.field_at,
-        s.field_count,
-        0,
-        n,
+        Section(first, f.field_at, f.field_count),
+        Section(second, s.field_at, s.field_count),
+        Raise(0, n),
         0,
         out,
         fourth_section,
@@ -226,14 +195,12 @@ fn have_terms(pairs: &[u8], count: usize, n: usize, m: usize) -> bool
     requires { length pairs.now ≡ 1 + 2 * count }
     ensures { result ≡ all (has_terms n m) (pairs_of pairs.now) }
 {
-    let mut k: usize = 0;
-    while k < count {
+    for k in 0..count {
         let a = entries::byte_at(pairs, 2 * k + 1);
         let b = entries::byte_at(pairs, 2 * k + 2);
         if !has_terms(n, m, a, b) {
             return false;
         }
-        k += 1;
     }
     true
 }
@@ -282,40 +249,50 @@ fn join_checked(
     s: Layout,
     pairs: &[u8],
     out: &mut [u8],
-) -> JoinAnswer
+) -> Result<usize, JoinRefusal>
     requires { Passing f first.now × Passing s second.now × (out.old ≡ replicate (length out.old) 0) }
     ensures { Does (join_of (decode first.now) (decode second.now) pairs.now (length out.old)) result out.new }
 {
     let n = f.terms;
     let m = s.terms;
     if !is_pair_list(pairs, n, m) {
-        return JoinAnswer::Refused(23, 0);
+        return Err(JoinRefusal::Neither(Fault::PairList.at(0)));
     }
     let count = entries::byte_at(pairs, 0);
     if !keeps_limits(f, s, count) {
-        return JoinAnswer::Refused(24, 0);
+        return Err(JoinRefusal::Neither(Fault::JoinRoom.at(0)));
     }
     let length = put_query(first, f, second, s, pairs, out);
     if out.len() < length {
         lent::clear(out);
-        return JoinAnswer::Refused(24, 0);
+        return Err(JoinRefusal::Neither(Fault::JoinRoom.at(0)));
     }
-    JoinAnswer::Written(length)
+    Ok(length)
+}
+
+// Where the sections of two queries stand that pass their checks: "2 to 8 for the first, then the second".
+fn check_both(first: &[u8], second: &[u8]) -> Result<(Layout, Layout), JoinRefusal>
+    ensures { BothChecked result first.now second.now }
+{
+    let f = match query_checks::check(first) {
+        Ok(f) => f,
+        Err(e) => return Err(JoinRefusal::First(e)),
+    };
+    let s = match query_checks::check(second) {
+        Ok(s) => s,
+        Err(e) => return Err(JoinRefusal::Second(e)),
+    };
+    Ok((f, s))
 }
 
 // One query of two, with an equality for each pair: its length and zeros past it; or a refusal, and zeros. "Checks: 2 to 8 for the first,
 // then the second; 23 ..; 24 .."
-pub fn join(first: &[u8], second: &[u8], pairs: &[u8], out: &mut [u8]) -> JoinAnswer
+pub fn join(first: &[u8], second: &[u8], pairs: &[u8], out: &mut [u8]) -> Result<usize, JoinRefusal>
     ensures { Does (join_call first.now second.now pairs.now (length out.old)) result out.new }
 {
     lent::clear(out);
-    match query_checks::check(first) {
-        Checked::Refused(k, place) => JoinAnswer::FirstRefused(k, place),
-        Checked::Accepted(f) => match query_checks::check(second) {
-            Checked::Refused(k, place) => JoinAnswer::SecondRefused(k, place),
-            Checked::Accepted(s) => join_checked(first, f, second, s, pairs, out),
-        },
-    }
+    let (f, s) = check_both(first, second)?;
+    join_checked(first, f, second, s, pairs, out)
 }
 
 // The byte at a place of a line, and 0 past its end.
@@ -372,7 +349,13 @@ fn place_in(query: &[u8], l: Layout, s: usize, k: usize) -> usize
 }
 
 // "25 .. the line does not begin with 9 or names no literal of either"
-fn find_literal(first: &[u8], f: Layout, second: &[u8], s: Layout, line: &[u8]) -> HandBack
+fn find_literal(
+    first: &[u8],
+    f: Layout,
+    second: &[u8],
+    s: Layout,
+    line: &[u8],
+) -> Result<HandBack, JoinRefusal>
     requires { Passing f first.now × Passing s second.now }
     ensures { (handed result ≡ hand_back_of (decode first.now) (decode second.now) line.now) × Inside (length first.now) (length second.now) result }
 {
@@ -380,33 +363,29 @@ fn find_literal(first: &[u8], f: Layout, second: &[u8], s: Layout, line: &[u8]) 
     let section = byte_of(line, 1);
     let k = byte_of(line, 2);
     if begins != 9 {
-        return HandBack::Refused(25, 0);
+        return Err(JoinRefusal::Neither(Fault::ClashLine.at(0)));
     }
     let i = count_in(first, f, section);
     let m = count_in(second, s, section);
     if k == 0 {
-        return HandBack::Refused(25, 0);
+        return Err(JoinRefusal::Neither(Fault::ClashLine.at(0)));
     }
     if k <= i {
-        return HandBack::InFirst(place_in(first, f, section, k), 3);
+        return Ok(HandBack::InFirst(place_in(first, f, section, k), 3));
     }
-    if k <= i + m {
-        return HandBack::InSecond(place_in(second, s, section, k - i), 3);
+    let last = i + m;
+    if k <= last {
+        return Ok(HandBack::InSecond(place_in(second, s, section, k - i), 3));
     }
-    HandBack::Refused(25, 0)
+    Err(JoinRefusal::Neither(Fault::ClashLine.at(0)))
 }
 
 // "a call beside it gives number and place": where the literal that a line names stands, or why there is none.
-pub fn find_named(first: &[u8], second: &[u8], line: &[u8]) -> HandBack
+pub fn find_named(first: &[u8], second: &[u8], line: &[u8]) -> Result<HandBack, JoinRefusal>
     ensures { (handed result ≡ hand_back_call first.now second.now line.now) × Inside (length first.now) (length second.now) result }
 {
-    match query_checks::check(first) {
-        Checked::Refused(k, place) => HandBack::FirstRefused(k, place),
-        Checked::Accepted(f) => match query_checks::check(second) {
-            Checked::Refused(k, place) => HandBack::SecondRefused(k, place),
-            Checked::Accepted(s) => find_literal(first, f, second, s, line),
-        },
-    }
+    let (f, s) = check_both(first, second)?;
+    find_literal(first, f, second, s, line)
 }
 
 // "hand back that literal's own bytes from whichever of the two lent queries it came from". "A refused hand-back is an empty part".
@@ -414,16 +393,14 @@ pub fn hand_back<'a>(first: &'a [u8], second: &'a [u8], line: &[u8]) -> &'a [u8]
     ensures { result.now ≡ part_of (hand_back_call first.now second.now line.now) first.now second.now }
 {
     match find_named(first, second, line) {
-        HandBack::InFirst(at, size) => {
+        Ok(HandBack::InFirst(at, size)) => {
             let end = at + size;
             &first[at..end]
         }
-        HandBack::InSecond(at, size) => {
+        Ok(HandBack::InSecond(at, size)) => {
             let end = at + size;
             &second[at..end]
         }
-        HandBack::FirstRefused(k, place) => &first[0..0],
-        HandBack::SecondRefused(k, place) => &first[0..0],
-        HandBack::Refused(k, place) => &first[0..0],
+        Err(_) => &first[0..0],
     }
 }

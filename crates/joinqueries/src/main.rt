@@ -7,6 +7,6 @@ fn main(rt: HostRuntime) {
     let mut text = [0u8; 2200];
     let read = streams::read_full(&rt, &mut input);
     let made = join_printing::put_text(&mut text, &input[..read]);
-    let end = check_printing::at_most(made, 2200);
+    let end = made.min(2200);
     streams::write_all(&rt, &text[..end]);
 }

@@ -66,19 +66,19 @@ module _ (n : ℕ) (j : Joined) where
   settle_done zero e = and_then-unjoined j
   settle_done (suc k) e = and_then_at j (settle n (suc k)) unjoined (rw e) ∙ and_then-unjoined j
 
-  pub settle_turn : (k a b : ℕ) → 0 < k → doubled n j.facts ≡ some (a, b) → and_then j (settle n k) ≡ and_then (pair_behind j a b) (settle n (k - 1))
+  pub settle_turn : (k next a b : ℕ) → k ≡ next + 1 → doubled n j.facts ≡ some (a, b) → and_then j (settle n k) ≡ and_then (pair_behind j a b) (settle n next)
   unfolding settle Option-elim
-  settle_turn zero a b h e = absurd (omega arith)
-  settle_turn (suc k) a b h e =
+  settle_turn zero next a b h e = absurd (omega arith)
+  settle_turn (suc k) next a b h e =
       and_then_at j (settle n (suc k)) (λ s. and_then (join_pair (a, b) s) (settle n k)) (rw e) ∙ pair_behind_lem j a b (settle n k)
       ∙ ap (λ (i : ℕ). and_then (pair_behind j a b) (settle n i)) left
     where
-      left : k ≡ suc k - 1
+      left : k ≡ next
       left = omega arith
 
   -- there is room for the pair of such a turn
   pub fits_turn : (k a b : ℕ) → 0 < k → doubled n j.facts ≡ some (a, b) → (whole : Joined) → whole ≡ and_then j (settle n k) → Fits whole → length j.pairs < 17
-  fits_turn k a b h e whole w f = fits_pair j a b (settle n (k - 1)) (subst Fits (w ∙ settle_turn k a b h e) f)
+  fits_turn k a b h e whole w f = fits_pair j a b (settle n (k - 1)) (subst Fits (w ∙ settle_turn k (k - 1) a b (omega arith) e) f)
 
   pub join_same : (a b : ℕ) → a ≡ b → and_then j (join n a b) ≡ j
   unfolding join
@@ -117,17 +117,17 @@ join-pairs n a b s = go (eqb a b)
     go false = omega (arith, settle-pairs n n (replace (min a b) (max a b) s))
 
 -- the code's pairs: how many, and one more
-pub count-pairs : (kept replaced : List ℕ) (count : ℕ) → length (pairs_in kept replaced count) ≡ count
-count-pairs kept replaced count = length-map (from count 0) (pair_at kept replaced) ∙ length_from count 0
+pub count-pairs : (entries : List (ℕ × ℕ)) (count : ℕ) → length (pairs_in entries count) ≡ count
+count-pairs entries count = length-map (from count 0) (pair_at entries) ∙ length_from count 0
 
 pub pairs-count : (p : Pairs) → length (pairs_of p) ≡ p.count
 unfolding pairs_of
-pairs-count p = count-pairs p.kept p.replaced p.count
+pairs-count p = count-pairs p.entries p.count
 
 -- no pair stands before
-pub none_before : (kept replaced : List ℕ) (s : Facts) (f : Facts → Joined) → and_then (record { pairs = pairs_in kept replaced 0; facts = s }) f ≡ f s
-unfolding from and_then
-none_before kept replaced s f = refl
+pub none_before : (s : Facts) (f : Facts → Joined) → and_then (unjoined s) f ≡ f s
+unfolding unjoined and_then
+none_before s f = refl
 
 -- numbers up to c, and c behind them
 from_more : (c k : ℕ) → from (suc c) k ≡ from c k ++ ((k + c) ∷ [])
@@ -142,11 +142,11 @@ unfolding from
 map_below f g zero k c h e = refl
 map_below f g (suc m) k c h e = ap₂ (λ (x : ℕ × ℕ) (l : List (ℕ × ℕ)). x ∷ l) (e k (omega arith)) (map_below f g m (suc k) c (omega arith) e)
 
-pub pairs_more : (kept replaced : List ℕ) (c a b : ℕ) → c < length kept → c < length replaced → pairs_in (set kept c a) (set replaced c b) (c + 1) ≡ pairs_in kept replaced c ++ ((a, b) ∷ [])
-pairs_more kept replaced c a b h k =
-    let f : ℕ → ℕ × ℕ = pair_at (set kept c a) (set replaced c b) in
+pub pairs_more : (entries : List (ℕ × ℕ)) (c : ℕ) (ab : ℕ × ℕ) → c < length entries → pairs_in (set entries c ab) (c + 1) ≡ pairs_in entries c ++ (ab ∷ [])
+pairs_more entries c ab h =
+    let f : ℕ → ℕ × ℕ = pair_at (set entries c ab) in
     ap (λ (m : ℕ). map f (from m 0)) (add-one c) ∙ ap (map f) (from_more c 0 ∙ ap (λ (i : ℕ). from c 0 ++ (i ∷ [])) (zero-add c))
     ∙ map-append f (from c 0) (c ∷ [])
     ∙ ap₂ (λ (l : List (ℕ × ℕ)) (x : ℕ × ℕ). l ++ (x ∷ []))
-    (map_below f (pair_at kept replaced) c 0 c (omega arith) (λ i l. ap₂ (λ (x y : ℕ). (x, y)) (get_or-set_other kept c i a 0 (λ e. omega arith)) (get_or-set_other replaced c i b 0 (λ e. omega arith))))
-    (ap₂ (λ (x y : ℕ). (x, y)) (get_or-set_same kept c a 0 h) (get_or-set_same replaced c b 0 k))
+    (map_below f (pair_at entries) c 0 c (omega arith) (λ i l. get_or-set_other entries c i ab (0, 0) (λ e. omega arith)))
+    (get_or-set_same entries c ab (0, 0) h)

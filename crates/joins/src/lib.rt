@@ -1,126 +1,96 @@
 // Joins of a path, in place: two terms, then doubled successors, with the pairs that were joined.
 #![tactic(auto)]
 
-ghost use Rattle.std.specs.Prelude.{◌≡◌, ◌+◌, ◌≤◌, ◌<◌, min, max, [], ◌∷◌, ◌++◌, length};
-ghost use Rattle.logic.specs.Facts.{and_then, settle, join};
-ghost use Rattle.facts.specs.Path.{Whole};
-ghost use Rattle.joins.specs.Pairs.{pairs_in, pairs_of, joined_in, Fits};
+ghost use Rattle.std.specs.Prelude.{◌≡◌, ◌≤◌, ◌<◌, [], ◌∷◌, ◌++◌};
+ghost use Rattle.logic.specs.Facts.{unjoined, and_then, settle, join, replace};
+ghost use Rattle.facts.specs.Path.{path_of};
+ghost use Rattle.joins.specs.Pairs.{pairs_of, joined_of, Fits};
 
-use doubled::Two;
 use facts::Facts;
-use rows::Term;
+use rows::{Pair, Term};
 
-// The pairs that were joined, in order, `count` of them: the term that was kept, and the one that it replaced. One join of at most
-// 16 terms makes no more than 17.
-#[derive(Drop)]
+// The pairs that were joined, in order: the term that was kept, and the one that it replaced. One join of at most 16 terms makes no more
+// than 17. The library has no heap memory, so an array holds them, the first `count` of its entries.
+#[derive(Clone, Copy)]
 pub struct Pairs {
-    pub kept: [u8; 17],
-    pub replaced: [u8; 17],
+    pub entries: [(u8, u8); 17],
     pub count: usize,
 }
 
-// What joining hands back.
-#[derive(Drop)]
+impl Pairs {
+    // No pair.
+    pub fn none() -> Pairs
+        ensures { pairs_of result ≡ [] }
+    {
+        Pairs {
+            entries: [(0, 0); 17],
+            count: 0,
+        }
+    }
+
+    // One pair more, behind the others.
+    pub fn push(&mut self, pair: Pair)
+        requires { self.old.count < 17 }
+        ensures { pairs_of self.new ≡ pairs_of self.old ++ ((pair.lo.0, pair.hi.0) ∷ []) }
+    {
+        self.entries[self.count] = (pair.lo.0 as u8, pair.hi.0 as u8);
+        self.count += 1;
+    }
+}
+
+// What joining hands back: the pairs that were joined, and the facts then.
+#[derive(Clone, Copy)]
 pub struct Joined {
     pub pairs: Pairs,
     pub facts: Facts,
 }
 
-// No pair.
-pub fn no_pairs() -> Pairs
-    ensures { pairs_of result ≡ [] }
-{
-    let kept = [0u8; 17];
-    let replaced = [0u8; 17];
-    Pairs {
-        kept,
-        replaced,
-        count: 0,
+impl Joined {
+    // Facts of which no two terms were joined.
+    pub fn of(facts: Facts) -> Joined
+        ensures { joined_of result ≡ unjoined (path_of facts) }
+    {
+        Joined {
+            pairs: Pairs::none(),
+            facts,
+        }
     }
-}
 
-// One pair more, behind the others.
-fn and_pair(kept: &mut [u8; 17], replaced: &mut [u8; 17], count: usize, lo: Term, hi: Term)
-    requires { (count < 17) × (lo.0 ≤ 16) × (hi.0 ≤ 16) × (length kept.old ≡ 17) × (length replaced.old ≡ 17) }
-    ensures { (pairs_in kept.new replaced.new (count + 1) ≡ pairs_in kept.old replaced.old count ++ ((lo.0, hi.0) ∷ [])) × (length kept.new ≡ 17) × (length replaced.new ≡ 17) }
-{
-    kept[count] = lo.0 as u8;
-    replaced[count] = hi.0 as u8;
-}
-
-// "While a term has two successors, the two lowest successors of the lowest such term are joined", after what was joined before
-pub fn settle(
-    single: bool,
-    rep: &mut [u8; 17],
-    link: &mut [u32; 51],
-    reach: &mut [u32; 51],
-    kept: &mut [u8; 17],
-    replaced: &mut [u8; 17],
-    count: usize,
-    n: usize,
-) -> usize
-    requires n_bound { (n ≤ 16) × Fits (and_then (joined_in single rep.old link.old reach.old kept.old replaced.old count) (settle n n)) }
-    requires whole { Whole rep.old link.old reach.old × (length kept.old ≡ 17) × (length replaced.old ≡ 17) }
-    ensures result_after { joined_in single rep.new link.new reach.new kept.new replaced.new result ≡ and_then (joined_in single rep.old link.old reach.old kept.old replaced.old count) (settle n n) }
-    ensures whole_2 { Whole rep.new link.new reach.new × (length kept.new ≡ 17) × (length replaced.new ≡ 17) }
-{
-    let mut total = count;
-    let mut left = n;
-    while 0 < left {
-        let Two::Of(a, b) = doubled::lowest(single, link, n) else {
-            return total;
-        };
-        and_pair(kept, replaced, total, a, b);
-        total += 1;
-        facts::replace(single, rep, link, reach, a, b);
-        left -= 1;
+    // One pair more is joined: it stands behind the others, and the facts speak of the lower in place of the higher.
+    fn unite(&mut self, pair: Pair)
+        requires { self.old.pairs.count < 17 }
+        ensures pairs { pairs_of self.new.pairs ≡ pairs_of self.old.pairs ++ ((pair.lo.0, pair.hi.0) ∷ []) }
+        ensures facts { path_of self.new.facts ≡ replace pair.lo.0 pair.hi.0 (path_of self.old.facts) }
+    {
+        self.pairs.push(pair);
+        self.facts.replace(pair);
     }
-    total
-}
 
-// The lower and the higher of two terms.
-fn lower(a: Term, b: Term) -> Term
-    ensures { result.0 ≡ min a.0 b.0 }
-{
-    if a.0 < b.0 {
-        return a;
+    // "While a term has two successors, the two lowest successors of the lowest such term are joined", after what was joined before
+    pub fn settle(&mut self, n: usize)
+        requires { (n ≤ 16) × Fits (and_then (joined_of self.old) (settle n n)) }
+        ensures { joined_of self.new ≡ and_then (joined_of self.old) (settle n n) }
+    {
+        for _turn in 0..n {
+            let Some((lo, hi)) = doubled::lowest(&self.facts, n) else {
+                return;
+            };
+            self.unite(Pair { lo, hi });
+        }
     }
-    b
-}
 
-fn higher(a: Term, b: Term) -> Term
-    ensures { result.0 ≡ max a.0 b.0 }
-{
-    if a.0 < b.0 {
-        return b;
+    // "Joining a and b", after the pairs that were joined before. A term joined with itself is no pair.
+    pub fn join(&mut self, n: usize, a: Term, b: Term)
+        requires { (n ≤ 16) × (a.0 ≤ 16) × (b.0 ≤ 16) × Fits (and_then (joined_of self.old) (join n a.0 b.0)) }
+        ensures { joined_of self.new ≡ and_then (joined_of self.old) (join n a.0 b.0) }
+    {
+        if a == b {
+            return;
+        }
+        self.unite(Pair {
+            lo: std::cmp::min(a, b),
+            hi: std::cmp::max(a, b),
+        });
+        self.settle(n);
     }
-    a
-}
-
-// "Joining a and b", after the pairs that were joined before. A term joined with itself is no pair.
-pub fn join(
-    single: bool,
-    rep: &mut [u8; 17],
-    link: &mut [u32; 51],
-    reach: &mut [u32; 51],
-    kept: &mut [u8; 17],
-    replaced: &mut [u8; 17],
-    count: usize,
-    n: usize,
-    a: Term,
-    b: Term,
-) -> usize
-    requires n_bound { (n ≤ 16) × (a.0 ≤ 16) × (b.0 ≤ 16) × Fits (and_then (joined_in single rep.old link.old reach.old kept.old replaced.old count) (join n a.0 b.0)) }
-    requires whole { Whole rep.old link.old reach.old × (length kept.old ≡ 17) × (length replaced.old ≡ 17) }
-    ensures result_after { joined_in single rep.new link.new reach.new kept.new replaced.new result ≡ and_then (joined_in single rep.old link.old reach.old kept.old replaced.old count) (join n a.0 b.0) }
-    ensures whole_2 { Whole rep.new link.new reach.new × (length kept.new ≡ 17) × (length replaced.new ≡ 17) }
-{
-    if a.0 == b.0 {
-        return count;
-    }
-    let lo = lower(a, b);
-    let hi = higher(a, b);
-    and_pair(kept, replaced, count, lo, hi);
-    facts::replace(single, rep, link, reach, lo, hi);
-    settle(single, rep, link, reach, kept, replaced, count + 1, n)
 }

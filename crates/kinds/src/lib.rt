@@ -5,29 +5,23 @@ ghost use Rattle.std.specs.Prelude.{◌≡◌};
 ghost use Rattle.kinds.specs.Kinds.{is_refuted, is_unknown};
 
 // What is found out of a path.
-#[derive(Clone, Copy)]
+#[derive(Clone, Copy, PartialEq)]
 pub enum Kind {
     Refuted,
     Open,
     Unknown,
 }
 
-pub fn is_refuted(kind: Kind) -> bool
-    ensures { result ≡ is_refuted kind }
-{
-    match kind {
-        Kind::Refuted => true,
-        Kind::Open => false,
-        Kind::Unknown => false,
+impl Kind {
+    pub fn is_refuted(self) -> bool
+        ensures { result ≡ is_refuted self }
+    {
+        self == Kind::Refuted
     }
-}
 
-pub fn is_unknown(kind: Kind) -> bool
-    ensures { result ≡ is_unknown kind }
-{
-    match kind {
-        Kind::Refuted => false,
-        Kind::Open => false,
-        Kind::Unknown => true,
+    pub fn is_unknown(self) -> bool
+        ensures { result ≡ is_unknown self }
+    {
+        self == Kind::Unknown
     }
 }

@@ -1,30 +1,13 @@
 -- Bytes cleared, and written behind each other into zeros.
-use Prim.Native.Nat.{ℕ, zero, suc, ◌+◌, ◌-◌, ◌≤◌, ◌<◌}
-use native.Mathlib.Numerals.{add-one}
+use Prim.Native.Nat.{ℕ, suc, ◌+◌, ◌-◌, ◌<◌}
 use native.Mathlib.Nat.{sub-zero}
 use native.Mathlib.Omega.{arith}
 use mathlib.Core.Path.{◌≡◌, refl, sym, ap, ◌∙◌}
 use mathlib.Core.List.{List, [], ◌∷◌, ◌++◌, append_assoc, append-nil}
-use lib.ListN.{length, get_or, set, drop, replicate, length-append, length-replicate, drop_of_length-le}
-use lib.Seq.{drop-cons, set-append_seam, set_at}
+use lib.ListN.{length, set, replicate, length-append, length-replicate}
+use lib.Seq.{set-append_seam}
 use Rattle.logic.specs.Calls.{padded}
 use Rattle.lent.specs.Appending.{Appends}
-
--- Clearing
-
-zeros_more : (i : ℕ) (xs : List ℕ) → replicate i 0 ++ (0 ∷ xs) ≡ 0 ∷ (replicate i 0 ++ xs)
-zeros_more zero xs = refl
-zeros_more (suc i) xs = ap (λ (ys : List ℕ). 0 ∷ ys) (zeros_more i xs)
-
-module _ (xs : List ℕ) (i : ℕ) where
-  pub clear_more : i < length xs → set (replicate i 0 ++ drop i xs) i 0 ≡ replicate (i + 1) 0 ++ drop (i + 1) xs
-  clear_more h =
-      rw (add-one i, drop-cons xs i 0 h) (set_at (replicate i 0) (get_or xs i 0) (drop (suc i) xs) 0 i (length-replicate i 0) ∙ zeros_more i (drop (suc i) xs))
-
-  pub clear_all : length xs ≤ i → i ≤ length xs → replicate i 0 ++ drop i xs ≡ replicate (length xs) 0
-  clear_all h k =
-      let e : i ≡ length xs = omega arith in
-      ap (λ (ys : List ℕ). replicate i 0 ++ ys) (drop_of_length-le xs h) ∙ append-nil (replicate i 0) ∙ ap (λ (j : ℕ). replicate j 0) e
 
 -- What was cleared, by its own length
 

@@ -8,10 +8,8 @@ ghost use Rattle.lent.specs.Appending.{Appends};
 pub fn clear(buffer: &mut [u8])
     ensures { buffer.new ≡ replicate (length buffer.old) 0 }
 {
-    let mut i: usize = 0;
-    while i < buffer.len() {
-        buffer[i] = 0;
-        i += 1;
+    for byte in buffer.iter_mut() {
+        *byte = 0;
     }
 }
 

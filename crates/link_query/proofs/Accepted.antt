@@ -9,8 +9,8 @@ use Rattle.logic.specs.Calls.{CallForm, one_link_form, accepts_by}
 use Rattle.theory.proofs.Query.Tied.{Accepted}
 use Rattle.theory.proofs.Calls.CallLaws.{FormLaws}
 use Rattle.query.specs.declared.Layout.{Layout}
-use Rattle.query_checks.specs.declared.Checked.{Checked}
-use Rattle.query_checks.specs.declared.Checked.TheVariants as checked
+use Rattle.refusals.specs.declared.Refusal.{Refusal}
+use Rattle.std.specs.Prelude.{Result, Ok, Err}
 use Rattle.query.specs.LaysOut.{literal_in}
 use Rattle.query_checks.specs.Answers.{CheckedAs}
 use Rattle.query.proofs.Ranges.{UpTo, below_of, entry_linked_of, equal_terms_of, reach_terms_of, reach_linked_of, field_number_term_of}
@@ -19,9 +19,9 @@ use Rattle.link_query.specs.Answers.{Taken, CheckedBy}
 use Rattle.link_query.proofs.Said.{terms-said, equalities-said, reachability-said, fields-said, one_within, one-said}
 
 -- the checks of the form of 01, in the same words as those of three links
-pub one_checked : (r : Checked) (bytes : List ℕ) → CheckedAs r bytes → CheckedBy one_link_form r bytes
-one_checked (checked.Refused k place) bytes h = h
-one_checked (checked.Accepted l) bytes h = record { free = h.0; within = one_within l bytes h.1; says = one-said l bytes h.1 }
+pub one_checked : (r : Result Layout Refusal) (bytes : List ℕ) → CheckedAs r bytes → CheckedBy one_link_form r bytes
+one_checked (Err e) bytes h = h
+one_checked (Ok l) bytes h = record { free = h.0; within = one_within l bytes h.1; says = one-said l bytes h.1 }
 
 module _ (f : CallForm) (laws : FormLaws f) (l : Layout) (bytes : List ℕ) (taken : Taken f l bytes) where
   pub taken_accepts : accepts_by f bytes ≡ true

@@ -4,6 +4,7 @@ use native.Mathlib.Omega.{arith}
 use mathlib.Core.Path.{◌≡◌, refl, sym, ap, ◌∙◌, subst}
 use mathlib.Core.Logic.{inr}
 use mathlib.Core.List.{List, [], ◌∷◌}
+use Rattle.std.specs.Prelude.{Ok, Err}
 use mathlib.Core.Option.{Option, none, some, Option-elim}
 use lib.ListN.{length, take, drop, length-drop}
 use lib.Seq.{length-take-le}
@@ -18,13 +19,13 @@ use Rattle.entries.proofs.Links.{entry_links, reach_links}
 use Rattle.query.specs.declared.Layout.{Layout}
 use Rattle.query.specs.declared.FullLayout.{FullLayout}
 use Rattle.query.specs.Forms.{entry_kind, reach_kind, form_by}
-use Rattle.query.specs.declared.FullChecked.{FullChecked}
-use Rattle.query.specs.declared.FullChecked.TheVariants as answer
+use Rattle.refusals.specs.declared.Refusal.{Refusal}
+use Rattle.refusals.specs.Numbers.{number_of}
 use Rattle.query.specs.Sections.{Stands, Sections}
 use Rattle.query_checks.specs.Answers.{ByteAnswer}
 use Rattle.query_checks.proofs.Checks.{layout_refused, laid_out, part_is}
 use Rattle.link_query.specs.Said.{entry_width, reach_width, entries_by, reach_by, said, Within}
-use Rattle.link_query.specs.Answers.{LinksChecked, first_refusal, Taken, CheckedBy}
+use Rattle.link_query.specs.Answers.{Taken, CheckedBy}
 
 -- with three links the five sections are those of R-11
 pub three_form : link_sections ≡ form_by 3 0 26
@@ -122,9 +123,14 @@ module _ (full : FullLayout) (bytes : List ℕ) (s : Sections full bytes) (few :
       ((i : Input) → i.query ≡ bytes → refusal_of (form_checks (form_by l.links 0 26)) i ≡ o) → (i : Input) → i.query ≡ bytes → refusal_of link_checks i ≡ o
   answered free h i q = link_free bytes i q free ∙ rw (three_form, ← three) (h i q)
 
-  -- where the walk from the front meets no refusal, 22 answers, and then the search of the bytes
-  pub first_checked : (links single : FullChecked) → LinksChecked links bytes → ByteAnswer single full (form_by l.links 0 26) bytes → CheckedBy three_link_form (first_refusal links single) bytes
-  first_checked (answer.Refused k place) single e h = λ i q. link_refused bytes i q link_parts place links_laid e.1 ∙ rw e.0
-  first_checked (answer.Accepted m) (answer.Refused k place) e h = answered e h
-  first_checked (answer.Accepted m) (answer.Accepted n) e h =
-      subst (λ (f : FullLayout). Taken three_link_form f.layout bytes) (sym h.1) (record { free = answered e h.0; within = links-within; says = links-said })
+  -- where the walk from the front meets no refusal, 22 answers
+  pub link_checked : (e : Refusal) → (number_of e.fault ≡ 22) × (link_fault (layout_by link_sections bytes) ≡ some e.place) → CheckedBy three_link_form (Err e) bytes
+  link_checked e h = λ i q. link_refused bytes i q link_parts e.place links_laid h.1 ∙ rw h.0
+
+  -- and then the search of the bytes
+  pub byte_refused : (e : Refusal) → link_fault (layout_by link_sections bytes) ≡ none → ByteAnswer (Err e) full (form_by l.links 0 26) bytes → CheckedBy three_link_form (Err e) bytes
+  byte_refused e free h = answered free h
+
+  pub byte_passed : (m : FullLayout) → link_fault (layout_by link_sections bytes) ≡ none → ByteAnswer (Ok m) full (form_by l.links 0 26) bytes → Taken three_link_form m.layout bytes
+  byte_passed m free h =
+      subst (λ (f : FullLayout). Taken three_link_form f.layout bytes) (sym h.1) (record { free = answered free h.0; within = links-within; says = links-said })

@@ -5,56 +5,40 @@ ghost use Rattle.std.specs.Prelude.{◌≡◌, ◌+◌, ◌*◌, ◌≤◌, ◌<
 ghost use Rattle.logic.specs.ThreeLinks.{three_link_form};
 ghost use Rattle.query.specs.Sections.{Sections};
 ghost use Rattle.link_query.specs.Said.{entry_width, reach_width, entry_in, link_in, reach_in};
-ghost use Rattle.link_query.specs.Answers.{LinksChecked, first_refusal, CheckedBy};
+ghost use Rattle.link_query.specs.Answers.{LinksChecked, CheckedBy};
 
-use query::{FullChecked, FullLayout};
-use query_checks::Checked;
+use query::{FullLayout, Layout};
+use refusals::{Fault, Refusal};
 use rows::Term;
 
 // "22 (the lowest such link byte)", of a query that is laid out: first of the terms, then of the reachability literals.
-fn check_link_bytes(query: &[u8], full: FullLayout) -> FullChecked
+fn check_link_bytes(query: &[u8], full: FullLayout) -> Result<(), Refusal>
     requires { Sections full query.now × (full.boolean_count ≤ 0) × (full.layout.links ≡ 3) }
     ensures { LinksChecked result query.now }
 {
     let l = full.layout;
-    match entries::link_fault(entries::Linked::Terms, query, 1, l.terms) {
-        entries::Found::At(place) => return FullChecked::Refused(22, place),
-        entries::Found::Nothing => {}
+    if let Some(place) = entries::link_fault(entries::Linked::Terms, query, 1, l.terms) {
+        return Err(Fault::LinkByte.at(place));
     }
-    match entries::link_fault(entries::Linked::Pairs, query, l.reach_at, l.reach_count) {
-        entries::Found::At(place) => FullChecked::Refused(22, place),
-        entries::Found::Nothing => FullChecked::Accepted(full),
+    if let Some(place) = entries::link_fault(
+        entries::Linked::Pairs,
+        query,
+        l.reach_at,
+        l.reach_count,
+    ) {
+        return Err(Fault::LinkByte.at(place));
     }
-}
-
-// The first of two answers, where it refuses, and else the second.
-fn first_refusal(first: FullChecked, second: FullChecked) -> Checked
-    ensures { result ≡ first_refusal first second }
-{
-    match first {
-        FullChecked::Refused(k, place) => return Checked::Refused(k, place),
-        FullChecked::Accepted(full) => {}
-    }
-    match second {
-        FullChecked::Refused(k, place) => Checked::Refused(k, place),
-        FullChecked::Accepted(full) => {
-            let l = full.layout;
-            Checked::Accepted(l)
-        }
-    }
+    Ok(())
 }
 
 // The walk from the front answers first, and then 22 "stands between 4 and 5".
-pub fn check_links(query: &[u8]) -> Checked
+pub fn check_links(query: &[u8]) -> Result<Layout, Refusal>
     ensures { CheckedBy three_link_form result query.now }
 {
-    let full = match query::lay_out(query, 3, 0, 26) {
-        FullChecked::Refused(k, place) => return Checked::Refused(k, place),
-        FullChecked::Accepted(full) => full,
-    };
-    let links = check_link_bytes(query, full);
-    let bytes = query_checks::check_bytes(query, full);
-    first_refusal(links, bytes)
+    let full = query::lay_out(query, 3, 0, Fault::BooleanCount)?;
+    check_link_bytes(query, full)?;
+    let checked = query_checks::check_bytes(query, full)?;
+    Ok(checked.layout)
 }
 
 // Term t of a query of so many links: the byte of its entry.

@@ -16,9 +16,11 @@ use Rattle.text.proofs.Writing.{writes_as}
 use Rattle.query_checks.specs.Answers.{CheckedAs}
 use Rattle.query.specs.LaysOut.{LaysOut}
 use Rattle.query.specs.declared.Layout.{Layout}
-use Rattle.query_checks.specs.declared.Checked.TheVariants as checked
 use Rattle.rewriter.specs.Promise.{Does}
-use Rattle.rewriter.specs.declared.Rewritten.TheVariants as answer
+use Rattle.std.specs.Prelude.{Ok, Err}
+use Rattle.refusals.specs.declared.Refusal.{Refusal}
+use Rattle.refusals.specs.declared.Fault.TheVariants as fault
+use Rattle.refusals.specs.Numbers.{number_of, refusal_at}
 use Rattle.rewriter.proofs.Answers.{does_blank, does_write}
 use Rattle.link_rewriting.specs.Call.{linked_bytes, rewriting_links, links_rewrite_call}
 use Rattle.link_rewriting.proofs.Claims.{accepts_same}
@@ -29,19 +31,19 @@ module _ (l : Layout) (bytes : List ℕ) (laid : LaysOut l bytes) (ok : accepts 
   passed : accepts_in sections bytes ≡ true
   passed = accepts_same bytes ∙ ok
 
-  pub short : room < length bytes + l.terms + l.reach_count → (out : List ℕ) → out ≡ replicate room 0 → Does (links_rewrite_call bytes room) (answer.Refused 27 0) out
+  pub short : room < length bytes + l.terms + l.reach_count → (out : List ℕ) → out ≡ replicate room 0 → Does (links_rewrite_call bytes room) (Err (refusal_at fault.RewriteRoom 0)) out
   short h out e = does_blank room (call_full rewriting_links bytes room passed (lt-leb _ room (omega (arith, h, written_long l bytes laid ok)))) e
 
   pub done : length bytes + l.terms + l.reach_count ≤ room → (before after : List ℕ) (r : ℕ) → before ≡ replicate room 0 →
       Writes before 0 (rewritten_bytes l.terms (reach_place l bytes laid ok) l.reach_count bytes) after r →
-      Does (links_rewrite_call bytes room) (answer.Written r) after
+      Does (links_rewrite_call bytes room) (Ok r) after
   done h before after r e w =
       let fits : length (linked_bytes bytes) ≤ room = omega (arith, h, written_long l bytes laid ok) in
       does_write room (call_writes rewriting_links bytes room passed (le-leb _ room fits)) fits e (writes_as (written_is l bytes laid ok) w)
 
 -- The checks
 
-pub refuses : (bytes : List ℕ) (room : ℕ) {k place : ℕ} → CheckedAs (checked.Refused k place) bytes → (out : List ℕ) → out ≡ replicate room 0 →
-    Does (links_rewrite_call bytes room) (answer.Refused k place) out
+pub refuses : (bytes : List ℕ) (room : ℕ) {r : Refusal} → CheckedAs (Err r) bytes → (out : List ℕ) → out ≡ replicate room 0 →
+    Does (links_rewrite_call bytes room) (Err r) out
 unfolding query_checks
-refuses bytes room {k} {place} h out e = does_blank room (call_refused rewriting_links bytes room (calls.refused k place) (h (given bytes room) refl)) e
+refuses bytes room {r} h out e = does_blank room (call_refused rewriting_links bytes room (calls.refused (number_of r.fault) r.place) (h (given bytes room) refl)) e

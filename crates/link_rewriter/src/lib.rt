@@ -12,8 +12,7 @@ ghost use Rattle.link_rewriting.specs.Call.{links_rewrite_call};
 ghost use Rattle.link_rewriter.specs.Bytes.{with_links, rewritten_bytes};
 
 use query::Layout;
-use query_checks::Checked;
-use rewriter::Rewritten;
+use refusals::{Fault, Refusal};
 
 // The link before a term byte: "0 0 a variable, 0 255 nil", and else 1.
 fn link_before(byte: u8) -> u8
@@ -34,12 +33,9 @@ fn put_entries(terms: &[u8], out: &mut [u8], to: usize) -> usize
     ensures { Writes out.old to (flat_map entry_bytes terms.now) out.new result }
 {
     let mut next = to;
-    let mut i: usize = 0;
-    while i < terms.len() {
-        let byte = terms[i];
-        let term = text::put_byte(out, next, link_before(byte));
-        next = text::put_byte(out, term, byte);
-        i += 1;
+    for byte in terms {
+        let term = text::put_byte(out, next, link_before(*byte));
+        next = text::put_byte(out, term, *byte);
     }
     next
 }
@@ -61,14 +57,9 @@ fn put_literals(literals: &[u8], count: usize, out: &mut [u8], to: usize) -> usi
     ensures { Writes out.old to (with_links literals.now) out.new result }
 {
     let mut next = to;
-    let mut k: usize = 0;
-    while k < count {
+    for k in 0..count {
         let at = 3 * k;
-        let sign = literals[at];
-        let from = literals[at + 1];
-        let end = literals[at + 2];
-        next = put_literal(out, next, sign, from, end);
-        k += 1;
+        next = put_literal(out, next, literals[at], literals[at + 1], literals[at + 2]);
     }
     next
 }
@@ -90,28 +81,26 @@ fn put_query(query: &[u8], n: usize, at: usize, count: usize, out: &mut [u8]) ->
 }
 
 // A query that passes its checks, in a blank buffer. Each term takes a byte more than before, and each reachability literal.
-fn rewrite_checked(query: &[u8], l: Layout, out: &mut [u8]) -> Rewritten
+fn rewrite_checked(query: &[u8], l: Layout, out: &mut [u8]) -> Result<usize, Refusal>
     requires { LaysOut l query.now × (accepts query.now ≡ true) × (out.old ≡ replicate (length out.old) 0) }
     ensures { Does (links_rewrite_call query.now (length out.old)) result out.new }
 {
     let n = l.terms;
     let count = l.reach_count;
     if out.len() < query.len() + n + count {
-        return Rewritten::Refused(27, 0);
+        return Err(Fault::RewriteRoom.at(0));
     }
     let at = n + 3 * l.equal_count + 3;
     let length = put_query(query, n, at, count, out);
-    Rewritten::Written(length)
+    Ok(length)
 }
 
 // The query with three links that a query in the old layout becomes: its length and zeros past it; or a refusal, 2 to 8 and 26, then 27, and
 // zeros.
-pub fn rewrite(query: &[u8], out: &mut [u8]) -> Rewritten
+pub fn rewrite(query: &[u8], out: &mut [u8]) -> Result<usize, Refusal>
     ensures { Does (links_rewrite_call query.now (length out.old)) result out.new }
 {
     lent::clear(out);
-    match query_checks::check(query) {
-        Checked::Refused(k, place) => Rewritten::Refused(k, place),
-        Checked::Accepted(l) => rewrite_checked(query, l, out),
-    }
+    let l = query_checks::check(query)?;
+    rewrite_checked(query, l, out)
 }

@@ -10,7 +10,7 @@ use lib.Seq.{get_or-set_same, get_or-set_other, get_or-take, get_or-drop, get_or
 use lib.Arith.{lt_of_le-ne}
 use lib.Bits.{bit_or, bit_and}
 use lib.Dec.{ltb, eqb}
-use borrow.Author.Tests.{lt-ltb, le-ltb, eqb-true, eqb-false, eq-eqb, ne_eqb, ltb-true}
+use borrow.Author.Tests.{lt-ltb, le-ltb, eqb-true, eqb-false, eq-eqb, ltb-true}
 use borrow.Rule.Slice.PartMut.{put_mid, post_of, take_put, drop_put, same_len_mid}
 use Rattle.logic.specs.Search.{◌and◌, ◌or◌, any}
 use Rattle.logic.specs.Facts.{became, replace_in}
@@ -20,9 +20,8 @@ use Rattle.theory.proofs.Basics.Count.{get_d_zeros}
 use Rattle.rows.specs.Bits.{bit}
 use Rattle.rows.specs.Square.{row_of, square}
 use Rattle.rows.proofs.Bits.{bit-and}
-use Rattle.rows.proofs.Fill.{Filled, filled_none, filled_old, filled_more, filled_all}
-use Rattle.rows.proofs.Square.{row_or, row_only, row_none, row_in, row_beyond, square_row, square_above, nothing_held}
-use Rattle.rows.proofs.Square as sq
+use Rattle.rows.proofs.Fill.{Filled}
+use Rattle.rows.proofs.Square.{row_or, row_only, row_none, row_in, row_beyond, square_row, square_above}
 use Rattle.link_rows.specs.Cube.{cube}
 
 module _ (rows : List ℕ) where
@@ -217,44 +216,3 @@ module _ (rows : List ℕ) (lo hi : ℕ) where
     where
       le-zero : (j : ℕ) → j ≤ 0 → j ≡ 0
       le-zero j h = omega arith
-
-  pub replaced_more : (cur later : List ℕ) (k : ℕ) → cube later ≡ (λ j. cond (eqb j k) (replace_in lo hi (cube cur j)) (cube cur j)) →
-      Filled new (cube rows) k (cube cur) → Filled new (cube rows) (k + 1) (cube later)
-  replaced_more cur later k e m = filled_more new (cube rows) k (cube cur) (cube later)
-      (at k ∙ rw (eq-eqb k k refl) (ap (replace_in lo hi) (filled_old new (cube rows) k (cube cur) m))) (λ x d. at x ∙ rw (ne_eqb x k d)) m
-    where
-      at : (j : ℕ) → cube later j ≡ cond (eqb j k) (replace_in lo hi (cube cur j)) (cube cur j)
-      at j = ap (λ (f : ℕ → ℕ → ℕ → Bool). f j) e
-
-  pub replaced_all : (cur : List ℕ) (k : ℕ) → Filled new (cube rows) k (cube cur) → (j : ℕ) → j < k → cube cur j ≡ new j
-  replaced_all cur k m j h = m j ∙ rw (lt-ltb j k h)
-
--- The rows of a link, copied one after the other
-module _ (rows : List ℕ) (from : ℕ) where
-  abbrev pub row_at : ℕ → ℕ → Bool
-  row_at a = row_of (get_or rows (from + a) 0)
-
-  abbrev pub Copied : ℕ → List ℕ → Type 0
-  Copied a own = Filled row_at (λ x y. false) a (square own)
-
-  pub copied_none : Copied 0 (replicate 17 0)
-  copied_none x = fun_ext (nothing_held 17 x) ∙ filled_none row_at (λ x y. false) x
-
-  pub copied_more : (own : List ℕ) → length own ≡ 17 → (a : ℕ) → a ≤ 16 → Copied a own → Copied (a + 1) (set own a (get_or rows (from + a) 0))
-  copied_more own full a h m = filled_more row_at (λ x y. false) a (square own) _ (sq.set_same own a _ full h) (sq.set_other own a _) m
-
-  pub copied_all : (own : List ℕ) (k : ℕ) → 0 < k → from ≡ 17 * (k - 1) → Copied 17 own → square own ≡ cube rows k
-  copied_all own k h e m =
-      fun_ext
-      (λ a.
-      ⊎_elim (λ l. fun_ext (λ b. square_above own a b l ∙ sym (cube_above rows k a b l)))
-      (λ l. m a ∙ rw (lt-ltb a 17 l) (ap (λ (i : ℕ). row_of (get_or rows (i + a) 0)) e ∙ sym (cube_row rows k a h (omega arith))))
-      (le_cases 17 a))
-
--- The same in the other direction
-pub laid_more : (own rows cur : List ℕ) → length cur ≡ 17 → (a : ℕ) → a ≤ 16 → Filled (square own) (square rows) a (square cur) →
-    Filled (square own) (square rows) (a + 1) (square (set cur a (get_or own a 0)))
-laid_more own rows cur full a h m = filled_more (square own) (square rows) a (square cur) _ (sq.set_same cur a _ full h ∙ sym (square_row own a h)) (sq.set_other cur a _) m
-
-pub laid_all : (own rows cur : List ℕ) → Filled (square own) (square rows) 17 (square cur) → square cur ≡ square own
-laid_all own rows cur m = filled_all (square own) (square rows) 17 (square cur) m (λ x o. fun_ext (λ y. square_above rows x y o ∙ sym (square_above own x y o)))

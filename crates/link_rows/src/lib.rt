@@ -8,10 +8,10 @@ ghost use Rattle.rows.specs.Bits.{bit};
 ghost use Rattle.rows.specs.Square.{square};
 ghost use Rattle.link_rows.specs.Cube.{cube};
 
-use rows::Term;
+use rows::{Pair, Term};
 
 // A link by its number, from 1.
-#[derive(Clone, Copy)]
+#[derive(Clone, Copy, PartialEq, Eq, PartialOrd, Ord)]
 pub struct Link(pub usize);
 
 // The place of the first row of link k.
@@ -29,11 +29,7 @@ pub fn rows_of(rows: &[u32; 51], k: Link) -> [u32; 17]
 {
     let from = place(k);
     let mut own = [0u32; 17];
-    let mut a: usize = 0;
-    while a < 17 {
-        own[a] = rows[from + a];
-        a += 1;
-    }
+    own.copy_from_slice(&rows[from..from + 17]);
     own
 }
 
@@ -42,10 +38,7 @@ pub fn is_held(rows: &[u32; 51], k: Link, a: usize, b: usize) -> bool
     requires { (0 < k.0) × (k.0 ≤ 3) }
     ensures { result ≡ cube rows.now k.0 a b }
 {
-    if 16 < a {
-        return false;
-    }
-    if 16 < b {
+    if 16 < a || 16 < b {
         return false;
     }
     let at = place(k) + a;
@@ -58,8 +51,7 @@ pub fn successor_row(link: &[u32; 51], n: usize, k: Link, t: Term) -> u32
     ensures { (i : ℕ) → bit result i ≡ cube link.now k.0 t.0 i and (ltb 0 i and ltb i (n + 1)) }
 {
     let at = place(k) + t.0;
-    let among = rows::term_row(n);
-    link[at] & among
+    link[at] & rows::term_row(n)
 }
 
 // The fact about a and b by link k is added.
@@ -68,20 +60,7 @@ pub fn add(rows: &mut [u32; 51], k: Link, a: Term, b: Term)
     ensures { (cube rows.new ≡ (λ j x y. cube rows.old j x y or (eqb j k.0 and eqb x a.0 and eqb y b.0))) × (length rows.new ≡ 51) }
 {
     let at = place(k) + a.0;
-    let added = rows::only(b.0);
-    rows[at] = rows[at] | added;
-}
-
-// Rows of one link get those of another.
-fn copy(rows: &mut [u32], own: &[u32; 17])
-    requires { length rows.old ≡ 17 }
-    ensures { (square rows.new ≡ square own.now) × (length rows.new ≡ 17) }
-{
-    let mut a: usize = 0;
-    while a < 17 {
-        rows[a] = own[a];
-        a += 1;
-    }
+    rows[at] |= rows::only(b.0);
 }
 
 // Link k gets these rows in place of its own.
@@ -90,28 +69,24 @@ pub fn put(rows: &mut [u32], k: Link, own: &[u32; 17])
     ensures { (cube rows.new ≡ (λ j. cond (eqb j k.0) (square own.now) (cube rows.old j))) × (length rows.new ≡ 51) }
 {
     let from = place(k);
-    let to = from + 17;
-    copy(&mut rows[from..to], own);
+    rows[from..from + 17].copy_from_slice(own);
 }
 
-// hi is replaced by lo in the relation of link k.
-fn replace_by(rows: &mut [u32], k: Link, lo: Term, hi: Term)
-    requires { (0 < k.0) × (k.0 ≤ 3) × (lo.0 < hi.0) × (hi.0 ≤ 16) × (length rows.old ≡ 51) }
-    ensures { (cube rows.new ≡ (λ j. cond (eqb j k.0) (replace_in lo.0 hi.0 (cube rows.old j)) (cube rows.old j))) × (length rows.new ≡ 51) }
+// The higher of a pair is replaced by the lower in the relation of link k.
+fn replace_by(rows: &mut [u32], k: Link, pair: Pair)
+    requires { (0 < k.0) × (k.0 ≤ 3) × (length rows.old ≡ 51) }
+    ensures { (cube rows.new ≡ (λ j. cond (eqb j k.0) (replace_in pair.lo.0 pair.hi.0 (cube rows.old j)) (cube rows.old j))) × (length rows.new ≡ 51) }
 {
     let from = place(k);
-    let to = from + 17;
-    rows::replace_in(&mut rows[from..to], lo, hi);
+    rows::replace_in(&mut rows[from..from + 17], pair);
 }
 
 // The same of links 1 to `links`.
-pub fn replace(rows: &mut [u32; 51], links: usize, lo: Term, hi: Term)
-    requires { (links ≤ 3) × (lo.0 < hi.0) × (hi.0 ≤ 16) × (length rows.old ≡ 51) }
-    ensures { ((j : ℕ) → j ≤ links → cube rows.new j ≡ replace_in lo.0 hi.0 (cube rows.old j)) × (length rows.new ≡ 51) }
+pub fn replace(rows: &mut [u32; 51], links: usize, pair: Pair)
+    requires { (links ≤ 3) × (length rows.old ≡ 51) }
+    ensures { ((j : ℕ) → j ≤ links → cube rows.new j ≡ replace_in pair.lo.0 pair.hi.0 (cube rows.old j)) × (length rows.new ≡ 51) }
 {
-    let mut k: usize = 1;
-    while k <= links {
-        replace_by(rows, Link(k), lo, hi);
-        k += 1;
+    for k in 1..=links {
+        replace_by(rows, Link(k), pair);
     }
 }

@@ -18,7 +18,11 @@ use Rattle.logic.specs.Rules.{equal, next, returns, round, held}
 use Rattle.theory.proofs.Basics.Compare.{eq_cases, le_cases}
 use Rattle.theory.proofs.Basics.Search.{find-some, from-mem}
 use Rattle.theory.proofs.Basics.Iterate.{iterate-suc, iterate-add}
+use Rattle.std.specs.Prelude as code
+use Rattle.std.specs.Option.{unwrap_or}
 use Rattle.rows.specs.Bits.{bit}
+use Rattle.rows.specs.declared.Term.{Term}
+use Rattle.rows.specs.Options.{found_of}
 use Rattle.facts.specs.Path.{graph_of, links_in}
 use Rattle.rows.proofs.Bits.{bit-or}
 use Rattle.link_steps.specs.Cycle.{steps_to}
@@ -32,6 +36,11 @@ module _ (n : ℕ) (g : Graph) (c : ℕ) where
   pub next-none : find (g.link c) (terms n) ≡ none → next n g c ≡ 0
   unfolding next
   next-none e = rw e
+
+  -- what was found, or 0
+  pub next_or : (o : code.Option Term) (t : Term) → found_of o ≡ find (g.link c) (terms n) → t ≡ unwrap_or o (record { 0 = 0 }) → t.0 ≡ next n g c
+  next_or (code.Some a) t e f = ap (λ (u : Term). u.0) f ∙ sym (next-some a.0 (sym e))
+  next_or code.None t e f = ap (λ (u : Term). u.0) f ∙ sym (next-none (sym e))
 
   pub next_le : next n g c ≤ n
   unfolding terms

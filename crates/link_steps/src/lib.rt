@@ -8,7 +8,7 @@ ghost use Rattle.link_steps.specs.Cycle.{steps_to};
 ghost use Rattle.logic.specs.Heap.{iterate};
 ghost use Rattle.logic.specs.Rules.{next};
 
-use rows::{Found, Term};
+use rows::Term;
 
 // Where the links led, after how many steps, and the row of the terms from which a step was made.
 #[derive(Drop)]
@@ -18,15 +18,13 @@ pub struct Followed {
     pub passed: u32,
 }
 
-// The successor of c, or 0 where it has none.
+// The successor of c, or 0 where it has none: 0 is no term, and the logic's `next` counts on from it, so an Option would be turned back
+// at each step.
 pub fn next(link: &[u32; 17], n: usize, c: Term) -> Term
     requires { (n ≤ 16) × (c.0 ≤ 16) }
     ensures { result.0 ≡ next n (links_in link.now) c.0 }
 {
-    match rows::successor(link, n, c) {
-        Found::At(t) => t,
-        Found::Nothing => Term(0),
-    }
+    rows::successor(link, n, c).unwrap_or(Term(0))
 }
 
 // The steps round a cycle: the links from c are followed until they lead to `until`, or `left` of them are made.
@@ -35,10 +33,9 @@ pub fn follow(link: &[u32; 17], n: usize, c: Term, until: Term, left: usize) -> 
     ensures { (result.steps ≡ steps_to n (links_in link.now) until.0 left c.0) × (result.term.0 ≡ iterate (next n (links_in link.now)) result.steps c.0) × ((y : ℕ) → bit result.passed y ≡ ltb (steps_to n (links_in link.now) y result.steps c.0) result.steps) }
 {
     let mut term = c;
-    let mut steps: usize = 0;
     let mut passed: u32 = 0;
-    while steps < left {
-        if term.0 == until.0 {
+    for steps in 0..left {
+        if term == until {
             return Followed {
                 term,
                 steps,
@@ -46,20 +43,15 @@ pub fn follow(link: &[u32; 17], n: usize, c: Term, until: Term, left: usize) -> 
             };
         }
         let d = next(link, n, term);
-        passed = passed | rows::only(term.0);
-        if d.0 == term.0 {
-            return Followed {
-                term,
-                steps: left,
-                passed,
-            };
+        passed |= rows::only(term.0);
+        if d == term {
+            break;
         }
         term = d;
-        steps += 1;
     }
     Followed {
         term,
-        steps,
+        steps: left,
         passed,
     }
 }

@@ -1,2 +1,1 @@
 pub mod Nil
-pub mod Links

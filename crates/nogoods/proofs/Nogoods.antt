@@ -5,8 +5,8 @@ use mathlib.Core.Path.{◌≡◌, refl, sym, ap, ◌∙◌, subst}
 use mathlib.Core.Logic.{⊎_elim}
 use mathlib.Core.Bool.{Bool, true}
 use mathlib.Core.List.{List, Memᴰ}
-use Rattle.logic.specs.Query.{Query, term_count}
-use Rattle.logic.specs.Heap.{Heap, Reaches, Meets, value}
+use Rattle.logic.specs.Query.{Query}
+use Rattle.logic.specs.Heap.{Heap, Reaches, value}
 use Rattle.logic.specs.Facts.{Facts, Line, live, is_clash}
 use Rattle.logic.specs.Rules.{Move, Fact, conditions, alternatives, add}
 use Rattle.logic.specs.Decision.{NoHeap, Follows, is_held, itself, by_link, onward, Closes}
@@ -15,7 +15,7 @@ use Rattle.theory.proofs.Basics.Search.{not_of}
 use Rattle.theory.proofs.Basics.Compare.{le_cases, ltb-true}
 use Rattle.theory.proofs.Basics.Iterate.{reaches_refl, reaches_trans, reaches_next}
 use Rattle.theory.proofs.Query.Tied.{Accepted}
-use Rattle.theory.proofs.Soundness.Truth.{Between, between, Same, Linked, Reached, TrueGraph, True, Holds, between_same}
+use Rattle.theory.proofs.Soundness.Truth.{Between, between, Same, Reached, True, between_same}
 use Rattle.theory.proofs.Paths.Ranged.{live_range}
 use Rattle.theory.proofs.Soundness.RuleSound.{rule_sound}
 use Rattle.theory.proofs.Soundness.FactsSound.{holds_add}

@@ -12,6 +12,8 @@ use Rattle.logic.specs.Rules.{Rule, triple, Move, move, applies, branch, branche
 use Rattle.logic.specs.Walk.{clashing, applying, look, order_of, walk, saturation}
 use Rattle.logic.specs.Steps.{one_more, AtMost}
 use Rattle.logic.specs.Decision.{HasHeap, NoHeap, Reachable, Struck}
+use Rattle.facts.specs.Path.{path_of}
+use Rattle.facts.specs.declared.Facts as code
 use Rattle.theory.proofs.Query.Tied.{Accepted}
 use Rattle.theory.proofs.Walks.Order.{order_full}
 use Rattle.theory.proofs.Walks.Derives.{seen-applying, seen-clashing}
@@ -40,6 +42,11 @@ pub record Comes (q : Query) (order : List ℕ) (k₀ : ℕ) (s₀ : Facts) (k :
   pub most : AtMost (term_count q) s k
   pub has_heap : HasHeap q s
   pub ends : (u : Facts) → walk q (order_of order) k s ≡ saturation u → walk q (order_of order) k₀ s₀ ≡ saturation u
+
+-- a branch of a path is one of its copy
+pub branch_from : (j : Joined) (p t : code.Facts) → p ≡ t → (n l : ℕ) (r : Rule) (x y z i : ℕ) →
+    j ≡ branch n (path_of p) (alternative_at l n ((path_of p).graph l) r x y z i) → j ≡ branch n (path_of t) (alternative_at l n ((path_of t).graph l) r x y z i)
+branch_from j p t same n l r x y z i e = subst (λ (d : code.Facts). j ≡ branch n (path_of d) (alternative_at l n ((path_of d).graph l) r x y z i)) same e
 
 -- a path with a heap has no clash
 pub never_clashes : {q : Query} (order : List ℕ) → Accepted q → (s : Facts) → Reachable q s → HasHeap q s → (l : Line) → look q (order_of order) s ≡ clashing l → ⊥

@@ -1,233 +1,102 @@
 // Reads a precedence sheet as text from standard input, a pair a line, and prints the order list, or the ring in words.
 #![tactic(auto)]
 
-ghost use Rattle.std.specs.Prelude.{◌*◌, ◌+◌, ◌≤◌, ◌<◌, length, ◌≡◌};
-ghost use Rattle.ordersheet.specs.Reading.{Few};
+ghost use Rattle.std.specs.Prelude.{◌*◌, ◌+◌, ◌≤◌, ◌<◌, ◌≡◌, length, IfOk};
 
 use precedence::OrderAnswer;
 
-// What a line says: nothing, a pair, or neither.
-#[derive(Drop)]
-enum Line {
-    Blank,
-    Pair(u8, u8),
-    Bad,
+// Why a line stops the reading of a sheet.
+#[derive(Clone, Copy)]
+enum Fault {
+    NoPair,
+    TooManyPairs,
 }
 
-// What a line adds: how many pairs there are then, or why it adds none.
-#[derive(Drop)]
-enum Added {
-    Now(usize),
-    Bad,
-    TooMany,
+// The line at which reading stopped, and why.
+#[derive(Clone, Copy)]
+struct Stop {
+    fault: Fault,
+    line: usize,
 }
 
-// A sheet with its pairs, or the line at which reading stopped.
-#[derive(Drop)]
-enum Sheet {
-    Read(usize),
-    BadLine(usize),
-    TooMany(usize),
-}
-
-// A word of a line: its first byte, and the place behind it.
-#[derive(Drop)]
-struct Word {
-    pub start: usize,
-    pub end: usize,
+// Two rules, the earlier first.
+#[derive(Clone, Copy)]
+struct Pair {
+    earlier: u8,
+    later: u8,
 }
 
 fn is_blank(b: u8) -> bool {
-    (b == b' ') | (b == b'\t') | (b == b'\r')
+    matches!(b, b' ' | b'\t' | b'\r')
 }
 
-// The first place from `at` on that is no blank.
-fn skip_blanks(line: &[u8], at: usize) -> usize
-    requires { at ≤ length line.now }
-    ensures { (at ≤ result) × (result ≤ length line.now) }
-{
-    let mut i = at;
-    while i < line.len() {
-        if !is_blank(line[i]) {
-            return i;
-        }
-        i += 1;
-    }
-    i
-}
-
-// The first place from `at` on that is a blank.
-fn skip_word(line: &[u8], at: usize) -> usize
-    requires { at ≤ length line.now }
-    ensures { (at ≤ result) × (result ≤ length line.now) }
-{
-    let mut i = at;
-    while i < line.len() {
-        if is_blank(line[i]) {
-            return i;
-        }
-        i += 1;
-    }
-    i
-}
-
-// The first line's end from `at` on.
-fn line_end(text: &[u8], at: usize) -> usize
-    requires { at ≤ length text.now }
-    ensures { (at ≤ result) × (result ≤ length text.now) }
-{
-    let mut i = at;
-    while i < text.len() {
-        if text[i] == b'\n' {
-            return i;
-        }
-        i += 1;
-    }
-    i
-}
-
-// The next word of a line from `at` on: empty at its end.
-fn next_word(line: &[u8], at: usize) -> Word
-    requires { at ≤ length line.now }
-    ensures { (result.start ≤ result.end) × (result.end ≤ length line.now) }
-{
-    let start = skip_blanks(line, at);
-    Word {
-        start,
-        end: skip_word(line, start),
+// The number of a rule, by its number or its name.
+fn rule_of(word: &[u8]) -> Option<u8> {
+    match word {
+        b"1" | b"REFLEX" => Some(1),
+        b"2" | b"TRANS1" => Some(2),
+        b"3" | b"TRANS2" => Some(3),
+        b"4" | b"FUNC" => Some(4),
+        b"5" | b"CYCLE" => Some(5),
+        b"6" | b"SCC" => Some(6),
+        b"7" | b"TOTAL" => Some(7),
+        b"8" | b"SHARE" => Some(8),
+        _ => None,
     }
 }
 
-fn same(a: &[u8], b: &[u8]) -> bool {
-    if a.len() != b.len() {
-        return false;
+// Two words of a line, past a `before` between them, where no third follows.
+fn two_words(line: &[u8]) -> Option<(&[u8], &[u8])> {
+    let mut words = line.split(|b| is_blank(*b)).filter(|word| !word.is_empty());
+    let first = words.next()?;
+    let mut second = words.next()?;
+    if second == b"before".as_slice() {
+        second = words.next()?;
     }
-    let mut i: usize = 0;
-    while i < a.len() {
-        if b.len() <= i {
-            return false;
-        }
-        if a[i] != b[i] {
-            return false;
-        }
-        i += 1;
+    match words.next() {
+        None => Some((first, second)),
+        Some(_) => None,
     }
-    true
-}
-
-// The number of a rule, by its number or its name; 0 for any other word.
-fn rule_of(word: &[u8]) -> u8 {
-    if same(word, b"1") | same(word, b"REFLEX") {
-        return 1;
-    }
-    if same(word, b"2") | same(word, b"TRANS1") {
-        return 2;
-    }
-    if same(word, b"3") | same(word, b"TRANS2") {
-        return 3;
-    }
-    if same(word, b"4") | same(word, b"FUNC") {
-        return 4;
-    }
-    if same(word, b"5") | same(word, b"CYCLE") {
-        return 5;
-    }
-    if same(word, b"6") | same(word, b"SCC") {
-        return 6;
-    }
-    if same(word, b"7") | same(word, b"TOTAL") {
-        return 7;
-    }
-    if same(word, b"8") | same(word, b"SHARE") {
-        return 8;
-    }
-    0
-}
-
-// The word after the earlier rule, past `before`.
-fn later_word(line: &[u8], at: usize) -> Word
-    requires { at ≤ length line.now }
-    ensures { (result.start ≤ result.end) × (result.end ≤ length line.now) }
-{
-    let word = next_word(line, at);
-    let start = word.start;
-    let end = word.end;
-    if same(&line[start..end], b"before") {
-        return next_word(line, end);
-    }
-    word
 }
 
 // A line: `SHARE before TOTAL`, `8 7`, nothing, or a comment after `#`.
-fn read_line(line: &[u8]) -> Line {
-    let first = next_word(line, 0);
-    let start = first.start;
-    let end = first.end;
-    if start == end {
-        return Line::Blank;
+fn read_line(line: &[u8]) -> Result<Option<Pair>, Fault> {
+    match line.iter().find(|b| !is_blank(**b)) {
+        None | Some(b'#') => return Ok(None),
+        Some(_) => {}
     }
-    if line[start] == b'#' {
-        return Line::Blank;
-    }
-    let earlier = rule_of(&line[start..end]);
-    let second = later_word(line, end);
-    let from = second.start;
-    let to = second.end;
-    let later = rule_of(&line[from..to]);
-    let rest = skip_blanks(line, to);
-    if (earlier == 0) | (later == 0) | (rest < line.len()) {
-        return Line::Bad;
-    }
-    Line::Pair(earlier, later)
+    let (first, second) = two_words(line).ok_or(Fault::NoPair)?;
+    let earlier = rule_of(first).ok_or(Fault::NoPair)?;
+    let later = rule_of(second).ok_or(Fault::NoPair)?;
+    Ok(Some(Pair { earlier, later }))
 }
 
 // A line is added to the pairs of a sheet: how many there are then.
-fn add_line(sheet: &mut [u8], count: usize, line: Line) -> Added
-    requires { (57 ≤ length sheet.old) × (count ≤ 28) }
-    ensures { (length sheet.new ≡ length sheet.old) × Few result }
+fn add_line(sheet: &mut [u8; 57], count: usize, line: &[u8]) -> Result<usize, Fault>
+    requires { count ≤ 28 }
+    ensures { IfOk result (λ n. n ≤ 28) }
 {
-    match line {
-        Line::Blank => Added::Now(count),
-        Line::Bad => Added::Bad,
-        Line::Pair(earlier, later) => {
-            if 28 <= count {
-                return Added::TooMany;
-            }
-            sheet[2 * count + 1] = earlier;
-            sheet[2 * count + 2] = later;
-            Added::Now(count + 1)
-        }
+    let Some(pair) = read_line(line)? else {
+        return Ok(count);
+    };
+    if 28 <= count {
+        return Err(Fault::TooManyPairs);
     }
+    sheet[2 * count + 1] = pair.earlier;
+    sheet[2 * count + 2] = pair.later;
+    Ok(count + 1)
 }
 
-// The sheet of a text, line by line.
-fn read_sheet(text: &[u8], sheet: &mut [u8]) -> Sheet
-    requires { 57 ≤ length sheet.old }
+// The sheet of a text, line by line: how many pairs it has.
+fn read_sheet(text: &[u8], sheet: &mut [u8; 57]) -> Result<usize, Stop>
+    ensures { IfOk result (λ n. n ≤ 28) }
 {
     let mut count: usize = 0;
-    let mut at: usize = 0;
-    let mut line: usize = 1;
-    while at < text.len() {
-        let end = line_end(text, at);
-        let added = add_line(sheet, count, read_line(&text[at..end]));
-        let Added::Now(now) = added else {
-            return stopped(added, line);
-        };
-        count = now;
-        at = end + 1;
-        line += 1;
+    for (i, line) in text.split(|b| *b == b'\n').enumerate() {
+        count = add_line(sheet, count, line).map_err(|fault| Stop { fault, line: i + 1 })?;
     }
     sheet[0] = count as u8;
-    Sheet::Read(count)
-}
-
-// Why reading stopped at a line.
-fn stopped(added: Added, line: usize) -> Sheet {
-    match added {
-        Added::TooMany => Sheet::TooMany(line),
-        Added::Bad => Sheet::BadLine(line),
-        Added::Now(_) => Sheet::BadLine(line),
-    }
+    Ok(count)
 }
 
 // Bytes, to standard output.
@@ -254,19 +123,13 @@ fn print_name(rt: &impl Print, r: u8) {
     }
 }
 
-fn wide(x: u8) -> u64 {
-    x as u64
-}
-
 // The order list: numbers, blanks between.
 fn print_order(rt: &impl Print, order: &[u8; 8]) {
-    let mut i: usize = 0;
-    while i < 8 {
+    for (i, rule) in order.iter().enumerate() {
         if 0 < i {
             put(rt, b" ");
         }
-        streams::print_decimal(rt, wide(order[i]));
-        i += 1;
+        streams::print_decimal(rt, u64::from(*rule));
     }
     put(rt, b"\n");
 }
@@ -274,13 +137,11 @@ fn print_order(rt: &impl Print, order: &[u8; 8]) {
 // The ring in words, back to its first rule.
 fn print_ring(rt: &impl Print, ring: &[u8; 8]) {
     put(rt, b"none: ");
-    let mut i: usize = 0;
-    while i < 8 {
-        if ring[i] != 0 {
-            print_name(rt, ring[i]);
+    for rule in ring {
+        if *rule != 0 {
+            print_name(rt, *rule);
             put(rt, b" before ");
         }
-        i += 1;
     }
     print_name(rt, ring[0]);
     put(rt, b"\n");
@@ -290,40 +151,30 @@ fn print_ring(rt: &impl Print, ring: &[u8; 8]) {
 fn print_answer(rt: &impl Print, sheet: &[u8]) {
     let mut bytes = [0u8; 8];
     match precedence::order_of(sheet, &mut bytes) {
-        OrderAnswer::Order => print_order(rt, &bytes),
-        OrderAnswer::Ring => print_ring(rt, &bytes),
-        OrderAnswer::Refused(_, _) => put(rt, b"refused\n"),
+        Ok(OrderAnswer::Order) => print_order(rt, &bytes),
+        Ok(OrderAnswer::Ring) => print_ring(rt, &bytes),
+        Err(_) => put(rt, b"refused\n"),
     }
 }
 
-// The answer for the first pairs of a sheet.
-fn print_pairs(rt: &impl Print, sheet: &[u8], count: usize) {
-    if 28 < count {
-        return;
+// Why no sheet was read.
+fn print_stop(rt: &impl Print, stop: Stop) {
+    print_line_number(rt, stop.line);
+    match stop.fault {
+        Fault::NoPair => put(
+            rt,
+            b": expected two rules, as `SHARE before TOTAL` or `8 7`\n",
+        ),
+        Fault::TooManyPairs => put(rt, b": more than 28 pairs\n"),
     }
-    let n = 2 * count + 1;
-    if sheet.len() < n {
-        return;
-    }
-    print_answer(rt, &sheet[..n]);
 }
 
 // The answer for a text.
 fn print_text(rt: &impl Print, text: &[u8]) {
     let mut sheet = [0u8; 57];
     match read_sheet(text, &mut sheet) {
-        Sheet::Read(count) => print_pairs(rt, &sheet, count),
-        Sheet::BadLine(line) => {
-            print_line_number(rt, line);
-            put(
-                rt,
-                b": expected two rules, as `SHARE before TOTAL` or `8 7`\n",
-            );
-        }
-        Sheet::TooMany(line) => {
-            print_line_number(rt, line);
-            put(rt, b": more than 28 pairs\n");
-        }
+        Ok(count) => print_answer(rt, &sheet[..2 * count + 1]),
+        Err(stop) => print_stop(rt, stop),
     }
 }
 

@@ -1,9 +1,7 @@
 -- The code's answer in the words of the definitions.
-use Rattle.std.specs.Prelude.{ℕ}
-use Rattle.std.proofs.Math.Option.{Option, none, some}
-use Rattle.pair_rings.specs.declared.Found.{Found}
-use Rattle.pair_rings.specs.declared.Found.TheVariants as found
+use Rattle.std.specs.Prelude.{Option}
+use Rattle.std.proofs.Math.Option as logic
+use Rattle.rows.specs.Options.{option_of}
 
-abbrev pub found_of : Found → Option ℕ
-found_of (found.At r) = some r
-found_of found.Nothing = none
+abbrev pub found_of : {A : Type 0} → Option A → logic.Option A
+found_of = option_of (λ a. a)

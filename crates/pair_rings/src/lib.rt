@@ -8,27 +8,18 @@ ghost use Rattle.ordering.specs.Sheet.{pairs, laid_out, rules_only, paired};
 ghost use Rattle.ordering.specs.Finding.{leads, onward, next_on, follow, ring_start, shown_ring};
 ghost use Rattle.pair_rings.specs.Answers.{found_of};
 
-// A rule number that was looked for.
-#[derive(Drop)]
-pub enum Found {
-    At(u8),
-    Nothing,
-}
-
 // A pair leads from a to b.
 fn is_paired(sheet: &[u8], a: u8, b: u8) -> bool
     requires { laid_out sheet.now ≡ true }
     ensures { result ≡ paired (pairs sheet.now) a b }
 {
     let end = sheet_reader::count(sheet);
-    let mut i: usize = 0;
-    while i < end {
+    for i in 0..end {
         let from = sheet_reader::earlier(sheet, i) == a;
         let to = sheet_reader::later(sheet, i) == b;
         if from & to {
             return true;
         }
-        i += 1;
     }
     false
 }
@@ -40,12 +31,10 @@ fn step_back(sheet: &[u8], row: [bool; 9]) -> [bool; 9]
 {
     let end = sheet_reader::count(sheet);
     let mut out = [false; 9];
-    let mut i: usize = 0;
-    while i < end {
+    for i in 0..end {
         let from = sheet_reader::earlier(sheet, i) as usize;
         let to = sheet_reader::later(sheet, i) as usize;
-        out[from] = out[from] | row[to];
-        i += 1;
+        out[from] |= row[to];
     }
     out
 }
@@ -58,10 +47,8 @@ fn row_to(sheet: &[u8], k: usize, z: u8) -> [bool; 9]
     let at = z as usize;
     let mut row = [false; 9];
     row[at] = true;
-    let mut j: usize = 0;
-    while j < k {
+    for _j in 0..k {
         row = step_back(sheet, row);
-        j += 1;
     }
     row
 }
@@ -92,12 +79,10 @@ fn next_on(sheet: &[u8], z: u8, k: usize, a: u8) -> u8
     requires { (laid_out sheet.now ≡ true) × (rules_only sheet.now ≡ true) × (z ≤ 8) }
     ensures { result ≡ next_on (pairs sheet.now) z k a }
 {
-    let mut r: u8 = 1;
-    while r < 9 {
+    for r in 1..9 {
         if is_onward(sheet, z, k, a, r) {
             return r;
         }
-        r += 1;
     }
     0
 }
@@ -110,28 +95,24 @@ fn follow_ring(sheet: &[u8], k: usize, s: u8) -> [u8; 8]
     let mut ring = [0u8; 8];
     ring[0] = s;
     let mut a = s;
-    let mut n: usize = 1;
-    while n < k {
+    for n in 1..k {
         a = next_on(sheet, s, k - n, a);
         ring[n] = a;
-        n += 1;
     }
     ring
 }
 
 // The lowest number from which k pairs lead back to it.
-fn ring_start(sheet: &[u8], k: usize) -> Found
+fn ring_start(sheet: &[u8], k: usize) -> Option<u8>
     requires { (laid_out sheet.now ≡ true) × (rules_only sheet.now ≡ true) }
     ensures { found_of result ≡ ring_start (pairs sheet.now) k }
 {
-    let mut s: u8 = 1;
-    while s < 9 {
+    for s in 1..9 {
         if is_led(sheet, k, s, s) {
-            return Found::At(s);
+            return Some(s);
         }
-        s += 1;
     }
-    Found::Nothing
+    None
 }
 
 // The shortest ring, "zeros to eight".
@@ -139,14 +120,10 @@ pub fn shown_ring(sheet: &[u8]) -> [u8; 8]
     requires { (laid_out sheet.now ≡ true) × (rules_only sheet.now ≡ true) }
     ensures { (length result ≡ 8) × (result ≡ padded 8 (shown_ring (pairs sheet.now))) }
 {
-    let mut k: usize = 1;
-    while k < 9 {
-        match ring_start(sheet, k) {
-            Found::At(s) => return follow_ring(sheet, k, s),
-            Found::Nothing => {}
+    for k in 1..9 {
+        if let Some(s) = ring_start(sheet, k) {
+            return follow_ring(sheet, k, s);
         }
-        k += 1;
     }
-    let none = [0u8; 8];
-    none
+    [0; 8]
 }

@@ -5,6 +5,7 @@ use mathlib.Core.Path.{◌≡◌, refl, sym, subst}
 use mathlib.Core.Bool.{true}
 use mathlib.Core.List.{List, [], ◌∷◌, Memᴰ}
 use mathlib.Core.Option.{some}
+use Rattle.std.specs.Prelude.{Option, Some, None}
 use Rattle.logic.specs.Search.{◌and◌, ◌or◌, all, any, from, keep, first_of}
 use Rattle.logic.specs.Query.{is_order}
 use Rattle.logic.specs.Facts.{Facts, link_numbers}
@@ -14,8 +15,7 @@ use Rattle.theory.proofs.Basics.Search.{keep_some, first_of-some}
 use Rattle.theory.proofs.Walks.Order.{order_full, choose-some, choose_nothing}
 use Rattle.theory.proofs.Paths.Applies.{triple_range}
 use Rattle.rules.specs.Answers.{choice_of}
-use Rattle.rules.specs.declared.Choice.{Choice}
-use Rattle.rules.specs.declared.Choice.TheVariants as choice
+use Rattle.rules.specs.declared.Move.{Move}
 use Rattle.picking.specs.Picks.{Picks}
 
 pub choose_range : (n : ℕ) (order : List Rule) (s : Facts) (i : ℕ) (r : Rule) (x y z : ℕ) → choose n order s ≡ some (move i r (triple x y z)) → (x ≤ n) × (y ≤ n) × (z ≤ n)
@@ -29,11 +29,11 @@ choose_range n order s i r x y z h =
     triple_range n x y z (subst (λ (t : Triple). Memᴰ t (triples n)) e g.1)
 
 -- a choice by an order list picks
-pub chosen_picks : (n : ℕ) → n ≤ 16 → (order : List ℕ) → is_order order ≡ true → (s : Facts) (r : Choice) → choice_of r ≡ choose n (order_of order) s → Picks n s r
-chosen_picks n few order o s (choice.Apply k r x y z) h =
+pub chosen_picks : (n : ℕ) → n ≤ 16 → (order : List ℕ) → is_order order ≡ true → (s : Facts) (r : Option Move) → choice_of r ≡ choose n (order_of order) s → Picks n s r
+chosen_picks n few order o s (Some m) h =
     let (lx, ly, lz) = choose_range n (order_of order) s _ _ _ _ _ (sym h) in
     (choose-some n s (order_of order) _ (sym h), omega arith, omega arith, omega arith)
-chosen_picks n few order o s choice.Nothing h = choose_nothing n s (order_of order) rules (order_full order o) (sym h)
+chosen_picks n few order o s None h = choose_nothing n s (order_of order) rules (order_full order o) (sym h)
 
 pub plain_order : is_order (1 ∷ 2 ∷ 3 ∷ 8 ∷ 4 ∷ 5 ∷ 6 ∷ 7 ∷ []) ≡ true
 unfolding is_order all any from ◌and◌ ◌or◌

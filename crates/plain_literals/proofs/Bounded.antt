@@ -1,16 +1,13 @@
 -- What a literal makes of a path keeps its terms within the arrays.
 use Prim.Native.Nat.{ℕ, ◌≤◌, min, max}
 use native.Mathlib.Omega.{arith}
-use mathlib.Core.Path.{◌≡◌, sym, subst}
 use mathlib.Core.Bool.{Bool, true, false, cond}
-use mathlib.Core.List.{List}
 use lib.Dec.{eqb}
 use Rattle.logic.specs.Query.{Literal, Query}
 use Rattle.logic.specs.Facts.{Facts, Joined, links_of, replace, unjoined, and_then, settle, join}
 use Rattle.theory.proofs.Paths.Joined.{join-facts}
 use Rattle.theory.proofs.Paths.Settle.{settle_keeps}
 use Rattle.doubled.proofs.Twos.{doubled_below}
-use Rattle.facts.specs.Path.{rep_of, replaced_by}
 use Rattle.plain_literals.specs.Taken.{join_one, Bounded, Terms}
 
 replaced : (lo hi : ℕ) (s : Facts) → lo ≤ 16 → Bounded s → Bounded (replace lo hi s)
@@ -49,13 +46,3 @@ join_bounded n l s h t b = go l.plain
 pub behind_bounded : (n : ℕ) (l : Literal) (j : Joined) → n ≤ 16 → Terms l → Bounded j.facts → Bounded (and_then j (join_one n l)).facts
 unfolding and_then
 behind_bounded n l j h t b = join_bounded n l j.facts h t b
-
--- of a path it is what its array of representatives tells
-module _ (rep : List ℕ) (s : Facts) (e : rep_of rep ≡ s.rep) where
-  pub rep_bounded : Bounded s → Bounded (replaced_by rep)
-  unfolding replaced_by
-  rep_bounded b = record { within = λ t h. subst (λ (f : ℕ → ℕ). f t ≤ 16) (sym e) (b.within t h) }
-
-  pub path_bounded : Bounded (replaced_by rep) → Bounded s
-  unfolding replaced_by
-  path_bounded b = record { within = λ t h. subst (λ (f : ℕ → ℕ). f t ≤ 16) e (b.within t h) }

@@ -4,11 +4,9 @@ use Rattle.logic.specs.Query.{Query}
 use Rattle.logic.specs.Facts.{Facts}
 use Rattle.logic.specs.Walk.{order_of, walk, saturation}
 use Rattle.logic.specs.Decision.{NoHeap, Closes}
-use Rattle.facts.specs.Path.{path_of}
 use Rattle.closing.specs.Closed.{Closed, begins}
 use Rattle.kinds.specs.declared.Kind.{Kind}
 use Rattle.kinds.specs.declared.Kind.TheVariants as kind
-use Rattle.plain_steps.specs.declared.Walked.{Walked}
 
 -- the path that plain steps look at: closed under REFLEX, TRANS1 and TRANS2 where the order list begins with these
 abbrev pub Ahead : ℕ → List ℕ → Facts → Facts → Type 0
@@ -20,6 +18,3 @@ pub record WalksTo (q : Query) (order : List ℕ) (k : ℕ) (s : Facts) (limited
   pub refuted : r ≡ kind.Refuted → NoHeap q s
   pub ends : r ≡ kind.Open → walk q (order_of order) k s ≡ saturation w
   pub gives_up : r ≡ kind.Unknown → limited ≡ true
-
-abbrev pub Walks : Query → List ℕ → ℕ → Facts → Bool → Walked → Type 0
-Walks q order k s limited r = WalksTo q order k s limited r.kind (path_of r.facts)

@@ -3,29 +3,29 @@ use Prim.Native.Nat.{ℕ, suc, ◌+◌, ◌-◌, ◌≤◌, ◌<◌}
 use native.Mathlib.Nat.{sub-zero}
 use native.Mathlib.Numerals.{add-one}
 use native.Mathlib.Omega.{arith}
-use mathlib.Core.Path.{◌≡◌, refl, sym, ap, ap₂, ◌∙◌}
+use mathlib.Core.Path.{◌≡◌, refl, sym, ap, ◌∙◌}
 use mathlib.Core.Bool.{Bool, true, false, not, ◌&&◌}
-use mathlib.Core.List.{List, [], ◌∷◌, ◌++◌, map, append_assoc}
+use mathlib.Core.List.{List, [], ◌∷◌, map}
 use mathlib.Core.Option.{none, some, Option-elim}
-use lib.ListN.{length, get_or, set, take, drop, replicate, replicate-append-replicate}
-use lib.Seq.{length-take-le, take_all, take-suc, drop-cons, get_or-take, take-suc-set, set_at}
+use lib.ListN.{length, set, take}
+use lib.Seq.{take_all, take-suc-set}
 use lib.Dec.{eqb}
 use borrow.Author.Tests.{eq-eqb, ne_eqb}
 use Rattle.logic.specs.Search.{◌and◌, ◌or◌, from, any, all}
-use Rattle.entries.proofs.Loops.{any_end, any_here, any_next}
+use Rattle.theory.proofs.Basics.Compare.{eq_cases}
+use Rattle.std.specs.List.{list_any}
+use mathlib.Core.Logic.{⊎_elim}
 use Rattle.ordering.specs.Sheet.{Pair, count_of, pair_at, pairs}
 use Rattle.ordering.specs.Finding.{free, ready, next_rule, grow}
 
--- r is among the first n numbers of a list
-module _ (r : ℕ) (list : List ℕ) (n : ℕ) (fits : n ≤ length list) where
-  pub placed_end : (i : ℕ) → n ≤ i → any (eqb r) (drop i (take n list)) ≡ false
-  placed_end i h = any_end (eqb r) (take n list) i (omega (arith, length-take-le n list fits))
-
-  pub placed_here : (i : ℕ) → i < n → r ≡ get_or list i 0 → any (eqb r) (drop i (take n list)) ≡ true
-  placed_here i h e = any_here (eqb r) (take n list) i (omega (arith, length-take-le n list fits)) (eq-eqb _ _ (e ∙ sym (get_or-take n list i 0 h)))
-
-  pub placed-next : (i : ℕ) → i < n → (r ≡ get_or list i 0 → ⊥) → any (eqb r) (drop i (take n list)) ≡ any (eqb r) (drop (i + 1) (take n list))
-  placed-next i h d = any_next (eqb r) (take n list) i (omega (arith, length-take-le n list fits)) (ne_eqb _ _ (λ e. d (e ∙ get_or-take n list i 0 h)))
+-- r is among the numbers placed, by the library's test
+pub placed_by : (r : ℕ) (placed : List ℕ) → list_any (λ y. eqb y r) placed ≡ any (eqb r) placed
+unfolding any ◌or◌
+placed_by r [] = refl
+placed_by r (x ∷ xs) = ⊎_elim
+    (λ e. rw (eq-eqb x r e, eq-eqb r x (sym e)))
+    (λ d. rw (d.1, ne_eqb r x (λ e. d.0 (sym e))) (placed_by r xs))
+    (eq_cases x r)
 
 -- the tests of pairs, pair by pair
 
@@ -83,22 +83,3 @@ module _ (ps : List Pair) where
     where
       left : 8 - n ≡ 0
       left = omega arith
-
--- Writing
-
-module _ (out list : List ℕ) where
-  pub write_more : (i : ℕ) → i < length list → i < length out → set (take i list ++ drop i out) i (get_or list i 0) ≡ take (i + 1) list ++ drop (i + 1) out
-  write_more i h k =
-      rw (add-one i, drop-cons out i 0 k)
-      (set_at (take i list) (get_or out i 0) (drop (suc i) out) (get_or list i 0) i (length-take-le i list (omega arith))
-      ∙ sym (append_assoc (take i list) (get_or list i 0 ∷ []) (drop (suc i) out)) ∙ ap (λ (l : List ℕ). l ++ drop (suc i) out) (sym (take-suc list i 0 h)))
-
-  pub write_all : (i : ℕ) → length list ≡ 8 → i ≤ 8 → 8 ≤ i → 8 ≤ length out → out ≡ replicate (length out) 0 → take i list ++ drop i out ≡ list ++ replicate (length out - 8) 0
-  write_all i size small big room blank = ap₂ (λ (u v : List ℕ). u ++ v) (take_all i list (omega arith))
-      (ap (λ (j : ℕ). drop j out) eight ∙ ap (drop 8) (blank ∙ ap (λ (j : ℕ). replicate j 0) split ∙ sym (replicate-append-replicate 8 (length out - 8) 0)) ∙ refl)
-    where
-      eight : i ≡ 8
-      eight = omega arith
-
-      split : length out ≡ 8 + (length out - 8)
-      split = omega arith

@@ -1,112 +1,75 @@
 // Order lists from a precedence sheet: the smallest order list that keeps every pair, or the shortest ring of pairs.
 #![tactic(auto)]
 
-ghost use Rattle.std.specs.Prelude.{◌≡◌, true, [], ◌++◌, ◌-◌, ◌≤◌, length, take, replicate, eqb};
-ghost use Rattle.logic.specs.Search.{any, all};
+ghost use Rattle.std.specs.Prelude.{◌≡◌, true, [], ◌++◌, ◌-◌, ◌≤◌, length, replicate};
+ghost use Rattle.logic.specs.Search.{all};
 ghost use Rattle.ordering.specs.Sheet.{pairs, laid_out, rules_only};
 ghost use Rattle.ordering.specs.Finding.{free, ready, next_rule, grow};
 ghost use Rattle.ordering.specs.Calls.{answered, order_call};
 ghost use Rattle.pair_rings.specs.Answers.{found_of};
-ghost use Rattle.precedence.specs.Answers.{grown_of, Does};
+ghost use Rattle.precedence.specs.Answers.{Does, DoesAnswer};
 
-use pair_rings::Found;
+use refusals::{Fault, Refusal};
 
-// What the call answers: an order, none and its ring, or a refusal's number and place.
-#[derive(Drop)]
+// What the call answers for a sheet: an order, or none and its ring.
+#[derive(Clone, Copy, PartialEq, Eq)]
 pub enum OrderAnswer {
     Order,
     Ring,
-    Refused(usize, usize),
 }
 
-// Rules placed one by one: whether all were.
-#[derive(Drop)]
-struct Grown {
-    pub complete: bool,
-    pub list: [u8; 8],
-}
-
-// r is one of the first n numbers of the list.
-fn placed(list: &[u8; 8], n: usize, r: u8) -> bool
-    requires { (n ≤ 8) × (length list.now ≡ 8) }
-    ensures { result ≡ any (eqb r) (take n list.now) }
-{
-    let mut i: usize = 0;
-    while i < n {
-        let x = list[i];
-        if r == x {
-            return true;
-        }
-        i += 1;
-    }
-    false
-}
-
-// Whatever is earlier than r is one of the first n numbers of the list.
-fn is_free(sheet: &[u8], list: &[u8; 8], n: usize, r: u8) -> bool
-    requires { (n ≤ 8) × (length list.now ≡ 8) × (laid_out sheet.now ≡ true) }
-    ensures { result ≡ all (free (take n list.now) r) (pairs sheet.now) }
+// Whatever is earlier than r is placed.
+fn is_free(sheet: &[u8], placed: &[u8], r: u8) -> bool
+    requires { laid_out sheet.now ≡ true }
+    ensures { result ≡ all (free placed.now r) (pairs sheet.now) }
 {
     let end = sheet_reader::count(sheet);
-    let mut i: usize = 0;
-    while i < end {
+    for i in 0..end {
         let here = sheet_reader::later(sheet, i) == r;
-        let before = placed(list, n, sheet_reader::earlier(sheet, i));
+        let earlier = sheet_reader::earlier(sheet, i);
+        let before = placed.contains(&earlier);
         if here & !before {
             return false;
         }
-        i += 1;
     }
     true
 }
 
-// r can stand next after the first n numbers of the list.
-fn is_ready(sheet: &[u8], list: &[u8; 8], n: usize, r: u8) -> bool
-    requires { (n ≤ 8) × (length list.now ≡ 8) × (laid_out sheet.now ≡ true) }
-    ensures { result ≡ ready (pairs sheet.now) (take n list.now) r }
+// r can stand next after the numbers placed.
+fn is_ready(sheet: &[u8], placed: &[u8], r: u8) -> bool
+    requires { laid_out sheet.now ≡ true }
+    ensures { result ≡ ready (pairs sheet.now) placed.now r }
 {
-    if placed(list, n, r) {
+    if placed.contains(&r) {
         return false;
     }
-    is_free(sheet, list, n, r)
+    is_free(sheet, placed, r)
 }
 
 // The lowest rule that can stand next.
-fn next_rule(sheet: &[u8], list: &[u8; 8], n: usize) -> Found
-    requires { (n ≤ 8) × (length list.now ≡ 8) × (laid_out sheet.now ≡ true) }
-    ensures { found_of result ≡ next_rule (pairs sheet.now) (take n list.now) }
+fn next_rule(sheet: &[u8], placed: &[u8]) -> Option<u8>
+    requires { laid_out sheet.now ≡ true }
+    ensures { found_of result ≡ next_rule (pairs sheet.now) placed.now }
 {
-    let mut r: u8 = 1;
-    while r < 9 {
-        if is_ready(sheet, list, n, r) {
-            return Found::At(r);
+    for r in 1..9 {
+        if is_ready(sheet, placed, r) {
+            return Some(r);
         }
-        r += 1;
     }
-    Found::Nothing
+    None
 }
 
-// The order list, number by number, as far as it goes.
-fn place_all(sheet: &[u8]) -> Grown
+// The order list, where all rules can be placed one by one.
+fn place_all(sheet: &[u8]) -> Option<[u8; 8]>
     requires { laid_out sheet.now ≡ true }
-    ensures { grown_of result ≡ grow (pairs sheet.now) 8 [] }
+    ensures { found_of result ≡ grow (pairs sheet.now) 8 [] }
 {
     let mut list = [0u8; 8];
-    let mut n: usize = 0;
-    while n < 8 {
-        let Found::At(r) = next_rule(sheet, &list, n) else {
-            return Grown {
-                complete: false,
-                list,
-            };
-        };
+    for n in 0..8 {
+        let r = next_rule(sheet, &list[..n])?;
         list[n] = r;
-        n += 1;
     }
-    Grown {
-        complete: true,
-        list,
-    }
+    Some(list)
 }
 
 // The eight numbers, at the front of a blank buffer.
@@ -114,43 +77,41 @@ fn write(out: &mut [u8], list: &[u8; 8])
     requires { (8 ≤ length out.old) × (length list.now ≡ 8) × (out.old ≡ replicate (length out.old) 0) }
     ensures { out.new ≡ list.now ++ replicate (length out.old - 8) 0 }
 {
-    let mut i: usize = 0;
-    while i < 8 {
-        out[i] = list[i];
-        i += 1;
-    }
+    out[..8].copy_from_slice(list);
 }
 
 // The answer for a sheet that passes its checks, in a blank buffer.
 fn answer(sheet: &[u8], out: &mut [u8]) -> OrderAnswer
     requires { (laid_out sheet.now ≡ true) × (rules_only sheet.now ≡ true) × (8 ≤ length out.old) × (out.old ≡ replicate (length out.old) 0) }
-    ensures { Does (answered (pairs sheet.now) (length out.old)) result out.new }
+    ensures { DoesAnswer (answered (pairs sheet.now) (length out.old)) result out.new }
 {
-    let grown = place_all(sheet);
-    if grown.complete {
-        let list = grown.list;
-        write(out, &list);
-        return OrderAnswer::Order;
+    match place_all(sheet) {
+        Some(list) => {
+            write(out, &list);
+            OrderAnswer::Order
+        }
+        None => {
+            let ring = pair_rings::shown_ring(sheet);
+            write(out, &ring);
+            OrderAnswer::Ring
+        }
     }
-    let ring = pair_rings::shown_ring(sheet);
-    write(out, &ring);
-    OrderAnswer::Ring
 }
 
 // The order list of a sheet, or none and its ring: "Checks: 15 wrong length or count, then 16 a rule number not 1 to 8", and 14 where
 // fewer than eight bytes are lent.
-pub fn order_of(sheet: &[u8], out: &mut [u8]) -> OrderAnswer
+pub fn order_of(sheet: &[u8], out: &mut [u8]) -> Result<OrderAnswer, Refusal>
     ensures { Does (order_call sheet.now (length out.old)) result out.new }
 {
     lent::clear(out);
     if !sheet_reader::laid_out(sheet) {
-        return OrderAnswer::Refused(15, 0);
+        return Err(Fault::SheetLength.at(0));
     }
     if !sheet_reader::rules_only(sheet) {
-        return OrderAnswer::Refused(16, 0);
+        return Err(Fault::SheetRule.at(0));
     }
     if out.len() < 8 {
-        return OrderAnswer::Refused(14, 0);
+        return Err(Fault::TextBuffer.at(0));
     }
-    answer(sheet, out)
+    Ok(answer(sheet, out))
 }

@@ -1,7 +1,7 @@
 // What heapverdict and linksverdict print, made in a lent buffer. The program reads, asks for the text and writes it.
 #![tactic(auto)]
 
-ghost use Rattle.std.specs.Prelude.{◌≡◌, ◌+◌, ◌≤◌, ◌<◌, min, length, replicate};
+ghost use Rattle.std.specs.Prelude.{◌≡◌, ◌+◌, ◌≤◌, ◌<◌, length, replicate};
 ghost use Rattle.logic.specs.Search.{flat_map};
 ghost use Rattle.logic.specs.Derivation.{lines_in};
 ghost use Rattle.logic.specs.Calls.{one_link_form, verdict_call_of};
@@ -22,8 +22,7 @@ fn put_lines(buffer: &mut [u8], at: usize, lines: &[u8]) -> usize
 {
     let count = 256 * wording::wide(lines[0]) + wording::wide(lines[1]);
     let mut to = at;
-    let mut i: usize = 0;
-    while i < count {
+    for i in 0..count {
         let from = 2 + 4 * i;
         to = wording::put_line(
             buffer,
@@ -33,7 +32,6 @@ fn put_lines(buffer: &mut [u8], at: usize, lines: &[u8]) -> usize
             lines[from + 2],
             lines[from + 3],
         );
-        i += 1;
     }
     to
 }
@@ -106,24 +104,14 @@ fn put_three(buffer: &mut [u8], order: &[u8], query: &[u8]) -> usize
     put_verdict(buffer, true, order, query, answer, &report, 3)
 }
 
-// The smaller of two numbers.
-fn at_most(n: usize, most: usize) -> usize
-    ensures { result ≡ min n most }
-{
-    if most < n {
-        return most;
-    }
-    n
-}
-
 // The text of these bytes: "at most the first 1,024 bytes .. the order list, then the query." It answers the length of the text, which
 // is stored as far as there is room. 256,006 bytes are always enough: `unsat`, and 16,000 lines of at most 16 bytes.
 pub fn put_text(buffer: &mut [u8], input: &[u8]) -> usize
     ensures { Writes buffer.old 0 (heapverdict_text input.now) buffer.new result × (result ≤ 256006) }
 {
     let n = input.len();
-    let cut = at_most(n, 8);
-    let end = at_most(n, 1024);
+    let cut = n.min(8);
+    let end = n.min(1024);
     put_one(buffer, &input[..cut], &input[cut..end])
 }
 
@@ -132,7 +120,7 @@ pub fn put_links_text(buffer: &mut [u8], input: &[u8]) -> usize
     ensures { Writes buffer.old 0 (linksverdict_text input.now) buffer.new result × (result ≤ 256006) }
 {
     let n = input.len();
-    let cut = at_most(n, 8);
-    let end = at_most(n, 1024);
+    let cut = n.min(8);
+    let end = n.min(1024);
     put_three(buffer, &input[..cut], &input[cut..end])
 }

@@ -4,10 +4,11 @@ use native.Mathlib.Omega.{arith}
 use mathlib.Core.Path.{◌≡◌, refl, sym, ap, ◌∙◌, subst}
 use mathlib.Core.Bool.{true, false}
 use mathlib.Core.List.{List}
+use mathlib.Core.Option.{some}
 use lib.ListN.{length, replicate}
 use Rattle.logic.specs.Query.{Query, is_order, term_count}
 use Rattle.logic.specs.Walk.{our_walk, saturation}
-use Rattle.logic.specs.Calls.{CallForm, Input, refused, verdict_of, derivation_of, derivation_call_of, derivation_checks_of, verdict_call_of, verdict_checks_of}
+use Rattle.logic.specs.Calls.{CallForm, Input, refused, refusal_of, verdict_of, derivation_of, derivation_call_of, derivation_checks_of, verdict_call_of, verdict_checks_of}
 use Rattle.logic.specs.Calls as calls
 use Rattle.theory.proofs.Calls.CallLaws.{FormLaws}
 use Rattle.theory.proofs.Query.Tied.{Accepted, Tied}
@@ -15,9 +16,8 @@ use Rattle.theory.proofs.Paths.Ranged.{live_range}
 use Rattle.facts.specs.Path.{rep_of, path_of}
 use Rattle.facts.specs.declared.Facts as code
 use Rattle.query.specs.declared.Layout.{Layout}
-use Rattle.query_checks.specs.declared.Checked.TheVariants as checked
 use Rattle.link_query.specs.Said.{said, Within}
-use Rattle.link_query.specs.Answers.{Taken, CheckedBy}
+use Rattle.link_query.specs.Answers.{Taken}
 use Rattle.link_query.proofs.Said.{terms-said}
 use Rattle.form_checks.proofs.Laws.{said-links}
 use Rattle.report.specs.Bytes.{Reportable}
@@ -63,7 +63,7 @@ module _ (f : CallForm) (laws : FormLaws f) (order query before bytes : List ℕ
   unfolding verdict_call_of verdict_checks_of
   verdict_order o b = does_blank _ (length before) (answer.Refused 1 0) bytes (call_refused i f (verdict_checks_of f) _ (refused 1 0) (order_refused i _ o)) b
 
-  pub verdict_query : (k place : ℕ) → is_order order ≡ true → CheckedBy f (checked.Refused k place) query → bytes ≡ replicate (length before) 0 → Does (verdict_call_of f i) (answer.Refused k place) bytes
+  pub verdict_query : (k place : ℕ) → is_order order ≡ true → ((j : Input) → j.query ≡ query → refusal_of f.checks j ≡ some (refused k place)) → bytes ≡ replicate (length before) 0 → Does (verdict_call_of f i) (answer.Refused k place) bytes
   unfolding verdict_call_of verdict_checks_of
   verdict_query k place o h b =
       does_blank _ (length before) (answer.Refused k place) bytes (call_refused i f (verdict_checks_of f) _ (refused k place) (query_refused i f.checks _ (refused k place) o (h i refl))) b
@@ -87,7 +87,7 @@ module _ (f : CallForm) (laws : FormLaws f) (order query before bytes : List ℕ
   unfolding derivation_call_of derivation_checks_of
   derivation_order o b = does_blank _ (length before) (answer.Refused 1 0) bytes (call_refused i f (derivation_checks_of f) _ (refused 1 0) (order_refused i _ o)) b
 
-  pub derivation_query : (k place : ℕ) → is_order order ≡ true → CheckedBy f (checked.Refused k place) query → bytes ≡ replicate (length before) 0 →
+  pub derivation_query : (k place : ℕ) → is_order order ≡ true → ((j : Input) → j.query ≡ query → refusal_of f.checks j ≡ some (refused k place)) → bytes ≡ replicate (length before) 0 →
       Does (derivation_call_of f i) (answer.Refused k place) bytes
   unfolding derivation_call_of
   derivation_query k place o h b =

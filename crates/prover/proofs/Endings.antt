@@ -19,7 +19,6 @@ use Rattle.plain_steps.specs.Walks.{WalksTo}
 use Rattle.kinds.specs.declared.Kind.{Kind}
 use Rattle.kinds.specs.declared.Kind.TheVariants as kind
 use Rattle.plain_steps.proofs.Cases.{refuted_is}
-use Rattle.prover.specs.Promise.{Settles}
 use Rattle.prover.proofs.Outcomes.{our_walk_lem}
 
 -- the walk begins at a path that it can reach
@@ -49,10 +48,9 @@ module _ (q : Query) (ok : Accepted q) (order : List ℕ) (o : is_order order �
   unfolding started
   no_heap free (h, meets) = free (subst (λ (i : Joined). HasHeap q i.facts) (sym begun) (start_heap q ok h meets))
 
-  pub settles : Settles (our_walk order q) r s
+  pub settles_refuted : is_refuted r ≡ true → our_verdict (our_walk order q) ≡ Verdict.refuted
+  settles_refuted f = (our_right q ok order o).refuted_exactly.1 (no_heap (told.refuted (refuted_is r f)))
+
+  pub settles_open : is_refuted r ≡ false → our_walk order q ≡ saturation s
   unfolding walk_branch after
-  settles =
-      record {
-        refuted = λ f. (our_right q ok order o).refuted_exactly.1 (no_heap (told.refuted (refuted_is r f)));
-        shown = λ f. sym whole ∙ ap (after (join_lines j.pairs)) (told.ends (open_kind r refl f));
-      }
+  settles_open f = sym whole ∙ ap (after (join_lines j.pairs)) (told.ends (open_kind r refl f))

@@ -1,11 +1,10 @@
 -- What the calls promise, on every input: the answer, and every byte of what is lent.
-use Rattle.std.specs.Prelude.{ℕ, ◌≡◌, true, false, List, length}
-use Rattle.logic.specs.Facts.{Facts}
+use Rattle.std.specs.Prelude.{ℕ, ◌≡◌, List, length, Option, Some, None}
 use Rattle.logic.specs.Walk.{Ending, saturation, Verdict, our_verdict}
 use Rattle.logic.specs.Calls.{Input, Outcome}
 use Rattle.logic.specs.Calls as calls
-use Rattle.kinds.specs.Kinds.{is_refuted}
-use Rattle.kinds.specs.declared.Kind.{Kind}
+use Rattle.facts.specs.Path.{path_of}
+use Rattle.facts.specs.declared.Facts as code
 use Rattle.prover.specs.declared.Answer.{Answer}
 use Rattle.prover.specs.declared.Answer.TheVariants as answer
 
@@ -24,7 +23,7 @@ pub record Does (outcome : Outcome) (r : Answer) (bytes : List ℕ) : Type 0 whe
   pub answers : meaning r ≡ outcome.answer
   pub leaves : bytes ≡ outcome.lent
 
--- how a walk ends: refuted, or with this path saturated
-pub record Settles (e : Ending) (k : Kind) (s : Facts) : Type 0 where
-  pub refuted : is_refuted k ≡ true → our_verdict e ≡ Verdict.refuted
-  pub shown : is_refuted k ≡ false → e ≡ saturation s
+-- how a walk ends: with this path saturated, or refuted
+abbrev pub Settles : Ending → Option code.Facts → Type 0
+Settles e (Some s) = e ≡ saturation (path_of s)
+Settles e None = our_verdict e ≡ Verdict.refuted

@@ -2,21 +2,18 @@
 // anything of its caller.
 #![tactic(auto)]
 
-ghost use Rattle.std.specs.Prelude.{◌≡◌, true, ◌+◌, ◌*◌, ◌≤◌, length, replicate, eqb};
+ghost use Rattle.std.specs.Prelude.{◌≡◌, true, ◌+◌, ◌*◌, ◌≤◌, length, replicate};
 ghost use Rattle.logic.specs.Query.{is_order};
 ghost use Rattle.logic.specs.Walk.{Verdict, our_walk, our_verdict};
 ghost use Rattle.logic.specs.Calls.{verdict_of, verdict_call, verdict_call_of, derivation_of, derivation_call, derivation_call_of};
 ghost use Rattle.logic.specs.ThreeLinks.{three_link_form};
 ghost use Rattle.theory.proofs.Query.Tied.{Accepted};
-ghost use Rattle.facts.specs.Path.{path_as};
 ghost use Rattle.link_query.specs.Said.{said, Within};
 ghost use Rattle.call_limits.specs.Forms.{form_of};
 ghost use Rattle.prover.specs.Promise.{input_of, Does, Settles};
 
 use facts::Facts;
-use kinds::Kind;
 use query::Layout;
-use query_checks::Checked;
 
 // What a call answers: a verdict, or a refusal's number and place.
 #[derive(Clone, Copy)]
@@ -26,25 +23,17 @@ pub enum Answer {
     Refused(usize, usize),
 }
 
-// How our walk of a query that passes its checks ends. Its lines are not written, and most branches are decided by other means than
-// walking them: the verdict is the same. The path where it ends is left in lent arrays, whatever they held.
-fn settled(
-    order: &[u8],
-    query: &[u8],
-    layout: Layout,
-    rep: &mut [u8; 17],
-    link: &mut [u32; 51],
-    reach: &mut [u32; 51],
-) -> Kind
+// How our walk of a query that passes its checks ends: with a saturated path, or refuted. Its lines are not written, and most branches are decided
+// by other means than walking them: the verdict is the same.
+fn settled(order: &[u8], query: &[u8], layout: Layout) -> Option<Facts>
     requires { Within layout query.now × Accepted (said layout query.now) × (is_order order.now ≡ true) }
-    ensures { Settles (our_walk order.now (said layout query.now)) result (path_as (eqb layout.links 1) rep.new link.new reach.new) }
+    ensures { Settles (our_walk order.now (said layout query.now)) result }
 {
     let steps = call_limits::limit(layout.links, layout.terms);
-    let single = layout.links == 1;
-    let mut kept = [0u8; 17];
-    let mut replaced = [0u8; 17];
-    start::start_in(query, layout, rep, link, reach, &mut kept, &mut replaced);
-    open_path::settle(query, layout, order, steps, single, rep, link, reach)
+    let goal = start::start(query, layout);
+    let mut path = goal.facts;
+    let kind = open_path::settle(query, layout, order, steps, &mut path);
+    if kind.is_refuted() { None } else { Some(path) }
 }
 
 // The verdict of a query that passes its checks, and the heap shown in a blank report.
@@ -52,21 +41,10 @@ fn decide(order: &[u8], query: &[u8], layout: Layout, report: &mut [u8]) -> Answ
     requires { Within layout query.now × Accepted (said layout query.now) × (is_order order.now ≡ true) × (37 + 16 * layout.links ≤ length report.old) × (report.old ≡ replicate (length report.old) 0) }
     ensures { Does (verdict_of (said layout query.now) (length report.old) (our_walk order.now (said layout query.now))) result report.new }
 {
-    let mut rep = [0u8; 17];
-    let mut link = [0u32; 51];
-    let mut reach = [0u32; 51];
-    let kind = settled(order, query, layout, &mut rep, &mut link, &mut reach);
-    if kinds::is_refuted(kind) {
+    let Some(path) = settled(order, query, layout) else {
         return Answer::Refuted;
-    }
-    let single = layout.links == 1;
-    let path = Facts {
-        rep,
-        single,
-        link,
-        reach,
     };
-    report::write_report(report, query, layout, path);
+    report::write_report(report, query, layout, &path);
     Answer::Satisfiable
 }
 
@@ -79,8 +57,8 @@ pub fn verdict_in(three: bool, order: &[u8], query: &[u8], report: &mut [u8]) ->
         return Answer::Refused(1, 0);
     }
     match form_checks::checked(three, query) {
-        Checked::Refused(k, place) => Answer::Refused(k, place),
-        Checked::Accepted(layout) => {
+        Err(refusal) => Answer::Refused(refusal.fault.number(), refusal.place),
+        Ok(layout) => {
             if call_limits::lacks_room(report.len(), three) {
                 return Answer::Refused(9, 0);
             }
@@ -99,13 +77,12 @@ fn write_lines(order: &[u8], query: &[u8], layout: Layout, buffer: &mut [u8]) ->
     }
     let steps = call_limits::limit(layout.links, layout.terms);
     let most = call_limits::most_lines(buffer.len());
-    let first = start::start(query, layout);
-    let listed = listing::list(query, layout, order, steps, first, buffer, 0, most);
-    let count = listed.count;
-    if listed.stopped {
+    let goal = start::start(query, layout);
+    let listed = listing::list(query, layout, order, steps, &goal, buffer, 0, most);
+    let Some(count) = listed else {
         lent::clear(buffer);
         return Answer::Refused(12, 0);
-    }
+    };
     if most < count {
         lent::clear(buffer);
         return Answer::Refused(12, 0);
@@ -120,14 +97,10 @@ fn derive(order: &[u8], query: &[u8], layout: Layout, buffer: &mut [u8]) -> Answ
     requires { Within layout query.now × Accepted (said layout query.now) × (is_order order.now ≡ true) × (buffer.old ≡ replicate (length buffer.old) 0) }
     ensures { Does (derivation_of (length buffer.old) (our_walk order.now (said layout query.now))) result buffer.new }
 {
-    let mut rep = [0u8; 17];
-    let mut link = [0u32; 51];
-    let mut reach = [0u32; 51];
-    let kind = settled(order, query, layout, &mut rep, &mut link, &mut reach);
-    if kinds::is_refuted(kind) {
-        return write_lines(order, query, layout, buffer);
+    match settled(order, query, layout) {
+        Some(_) => Answer::Refused(11, 0),
+        None => write_lines(order, query, layout, buffer),
     }
-    Answer::Refused(11, 0)
 }
 
 // The derivation call of either form.
@@ -139,8 +112,8 @@ pub fn derivation_in(three: bool, order: &[u8], query: &[u8], buffer: &mut [u8])
         return Answer::Refused(1, 0);
     }
     match form_checks::checked(three, query) {
-        Checked::Refused(k, place) => Answer::Refused(k, place),
-        Checked::Accepted(layout) => derive(order, query, layout, buffer),
+        Err(refusal) => Answer::Refused(refusal.fault.number(), refusal.place),
+        Ok(layout) => derive(order, query, layout, buffer),
     }
 }
 

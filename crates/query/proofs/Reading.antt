@@ -3,6 +3,7 @@ use Prim.Native.Nat.{ℕ, suc, ◌+◌, ◌-◌, ◌*◌, ◌≤◌, ◌<◌}
 use native.Mathlib.Omega.{arith}
 use mathlib.Core.Path.{◌≡◌, refl, ◌∙◌}
 use mathlib.Core.List.{List, [], ◌∷◌}
+use Rattle.std.specs.Prelude.{Err}
 use lib.ListN.{length, get_or, take, drop, length-drop}
 use lib.Seq.{drop-length, drop-drop}
 use borrow.Author.Tests.{le-leb, lt-leb}
@@ -10,9 +11,8 @@ use Rattle.logic.specs.Query.{Section, Form, faulty, parts, with_part, layout, f
 use Rattle.entries.specs.declared.Kind.{Kind}
 use Rattle.entries.specs.declared.Kind.TheVariants as kind
 use Rattle.entries.specs.Entries.{width_of}
-use Rattle.query.specs.declared.Part.{Part}
-use Rattle.query.specs.declared.Read.{Read}
-use Rattle.query.specs.declared.Read.TheVariants as read
+use Rattle.refusals.specs.declared.Refusal.{Refusal}
+use Rattle.refusals.specs.Numbers.{number_of}
 use Rattle.query.specs.Sections.{Stands, ReadAs}
 use Rattle.entries.proofs.Loops.{drop_next}
 
@@ -57,24 +57,6 @@ module _ (s : Section) (ss : List Section) (bytes : List ℕ) (at : ℕ) where
     unfolding with_part
     pass_parts ps e = passed ∙ rw e
 
--- the widest entry has four bytes
-pub narrow : (kind : Kind) → width_of kind ≤ 4
-narrow kind.Terms = omega arith
-narrow kind.Pairs = omega arith
-narrow kind.Fields = omega arith
-narrow kind.Booleans = omega arith
-narrow kind.LinkedTerms = omega arith
-narrow kind.LinkedPairs = omega arith
-
--- what a section was read as, where the answer is known
-pub read_section : {r : Read} {part : Part} (bytes : List ℕ) (at limit excess width : ℕ) → r ≡ read.Section part →
-    ReadAs r bytes at limit excess width → Stands bytes limit width at part.count part.next
-read_section bytes at limit excess width e h = rw e at h
-
-pub read_refused : {r : Read} {k place : ℕ} (bytes : List ℕ) (s : Section) (ss : List Section) (at : ℕ) → r ≡ read.Refused k place →
-    ReadAs r bytes at s.limit s.excess s.width → layout (s ∷ ss) at (drop at bytes) ≡ faulty k place
-read_refused bytes s ss at e h = (rw e at h) s ss refl refl refl
-
 -- a section stands whatever its limit, if that is not below the count
 pub with_limit : {bytes : List ℕ} {limit width at count next : ℕ} (most : ℕ) → Stands bytes limit width at count next → count ≤ most → Stands bytes most width at count next
 with_limit most s h = record { counted = s.counted; count_is = s.count_is; within = h; next_is = s.next_is; fits = s.fits }
@@ -92,8 +74,8 @@ module _ {form : Form} {bytes : List ℕ} {s : Section} {ss : List Section} {at 
   beyond {count} {next} stands = record { leads = λ k place e. reached.leads k place (pass_faulty s ss bytes at count next stands k place e) }
 
   -- the section that the walk has come to is refused
-  pub stopped : {k place : ℕ} {r : Read} → r ≡ read.Refused k place → ReadAs r bytes at s.limit s.excess s.width → layout_by form bytes ≡ faulty k place
-  stopped {k} {place} e h = reached.leads k place (read_refused bytes s ss at e h)
+  pub stopped : (e : Refusal) → ReadAs (Err e) bytes at s.limit s.excess s.width → layout_by form bytes ≡ faulty (number_of e.fault) e.place
+  stopped e h = reached.leads (number_of e.fault) e.place (h s ss refl refl refl)
 
 -- bytes follow the last section
 pub trailing : {form : Form} {bytes : List ℕ} {at : ℕ} → Reached form bytes [] at → at < length bytes → layout_by form bytes ≡ faulty 4 at

@@ -1,13 +1,12 @@
 -- The sections of a query's bytes, at their places.
-use Rattle.std.specs.Prelude.{ℕ, ◌+◌, ◌*◌, ◌≤◌, ◌<◌, ◌≡◌, List, ◌∷◌, length, get_or, drop}
+use Rattle.std.specs.Prelude.{ℕ, ◌+◌, ◌*◌, ◌≤◌, ◌<◌, ◌≡◌, List, ◌∷◌, length, get_or, drop, Result, Ok, Err}
 use Rattle.logic.specs.Query.{Section, layout, faulty, layout_by}
+use Rattle.refusals.specs.declared.Refusal.{Refusal}
+use Rattle.refusals.specs.Numbers.{number_of}
 use Rattle.entries.specs.Entries.{width_of}
 use Rattle.query.specs.Forms.{entry_kind, reach_kind, form_by}
-use Rattle.query.specs.declared.Read.{Read}
-use Rattle.query.specs.declared.Read.TheVariants as read
+use Rattle.query.specs.declared.Part.{Part}
 use Rattle.query.specs.declared.FullLayout.{FullLayout}
-use Rattle.query.specs.declared.FullChecked.{FullChecked}
-use Rattle.query.specs.declared.FullChecked.TheVariants as full
 
 -- The section with its count at `at` and the next section at `next`.
 pub record Stands (bytes : List ℕ) (limit width at count next : ℕ) : Type 0 where
@@ -18,10 +17,10 @@ pub record Stands (bytes : List ℕ) (limit width at count next : ℕ) : Type 0 
   pub fits : next ≤ length bytes
 
 -- what is read at a section: the refusal that the walk from the front meets there, or the section
-abbrev pub ReadAs : Read → List ℕ → ℕ → ℕ → ℕ → ℕ → Type 0
-ReadAs (read.Refused k place) bytes at limit excess width =
-    (s : Section) (ss : List Section) → s.limit ≡ limit → s.excess ≡ excess → s.width ≡ width → layout (s ∷ ss) at (drop at bytes) ≡ faulty k place
-ReadAs (read.Section part) bytes at limit excess width = Stands bytes limit width at part.count part.next
+abbrev pub ReadAs : Result Part Refusal → List ℕ → ℕ → ℕ → ℕ → ℕ → Type 0
+ReadAs (Err e) bytes at limit excess width =
+    (s : Section) (ss : List Section) → s.limit ≡ limit → s.excess ≡ excess → s.width ≡ width → layout (s ∷ ss) at (drop at bytes) ≡ faulty (number_of e.fault) e.place
+ReadAs (Ok part) bytes at limit excess width = Stands bytes limit width at part.count part.next
 
 -- The five sections follow each other from the first byte to the last. How many booleans pass is not said here.
 pub record Sections (l : FullLayout) (bytes : List ℕ) : Type 0 where
@@ -40,6 +39,6 @@ pub record Sections (l : FullLayout) (bytes : List ℕ) : Type 0 where
   pub boolean_at : l.boolean_at ≡ fifth + 1
 
 -- the refusal of the walk from the front, or the sections
-abbrev pub LaidOut : FullChecked → List ℕ → ℕ → ℕ → ℕ → Type 0
-LaidOut (full.Refused k place) bytes links most excess = layout_by (form_by links most excess) bytes ≡ faulty k place
-LaidOut (full.Accepted l) bytes links most excess = Sections l bytes × (l.boolean_count ≤ most) × (l.layout.links ≡ links)
+abbrev pub LaidOut : Result FullLayout Refusal → List ℕ → ℕ → ℕ → ℕ → Type 0
+LaidOut (Err e) bytes links most excess = layout_by (form_by links most excess) bytes ≡ faulty (number_of e.fault) e.place
+LaidOut (Ok l) bytes links most excess = Sections l bytes × (l.boolean_count ≤ most) × (l.layout.links ≡ links)

@@ -2,10 +2,12 @@
 #![tactic(auto)]
 
 ghost use Rattle.std.specs.Prelude.{◌≡◌, ◌+◌, ◌*◌, ◌≤◌, length};
+ghost use Rattle.refusals.specs.Numbers.{number_of};
 ghost use Rattle.query.specs.Forms.{entry_kind, reach_kind};
 ghost use Rattle.query.specs.Sections.{ReadAs, LaidOut};
 ghost use Rattle.query.specs.LaysOut.{literal_in};
 
+use refusals::{Fault, Refusal};
 use rows::Term;
 
 // Where the sections of a query stand: the first byte of each behind its count, and the count. The terms stand at 1. With one link the query
@@ -30,13 +32,6 @@ pub struct FullLayout {
     pub boolean_count: usize,
 }
 
-// A query that is refused, with the refusal's number and place, or one that is accepted.
-#[derive(Drop)]
-pub enum FullChecked {
-    Refused(usize, usize),
-    Accepted(FullLayout),
-}
-
 // A section: its count, and the place behind it.
 #[derive(Drop)]
 struct Part {
@@ -44,32 +39,31 @@ struct Part {
     pub next: usize,
 }
 
-// What the walk from the front meets at a section: a refusal with its place, or the section.
-#[derive(Drop)]
-enum Read {
-    Refused(usize, usize),
-    Section(Part),
-}
-
 // The section whose count stands at `at`: refused 2 where the query ends before it does, and `excess` where the count is above the limit.
-fn read_section(query: &[u8], at: usize, limit: usize, excess: usize, width: usize) -> Read
+fn read_section(
+    query: &[u8],
+    at: usize,
+    limit: usize,
+    excess: Fault,
+    width: usize,
+) -> Result<Part, Refusal>
     requires { (at ≤ length query.now) × (width ≤ 4) }
-    ensures { ReadAs result query.now at limit excess width }
+    ensures { ReadAs result query.now at limit (number_of excess) width }
 {
     let len = query.len();
     if at == len {
-        return Read::Refused(2, at);
+        return Err(Fault::QueryEnds.at(at));
     }
     let count = query[at] as usize;
     if limit < count {
-        return Read::Refused(excess, at);
+        return Err(excess.at(at));
     }
     let size = count * width;
     let left = len - at - 1;
     if left < size {
-        return Read::Refused(2, len);
+        return Err(Fault::QueryEnds.at(len));
     }
-    Read::Section(Part {
+    Ok(Part {
         count,
         next: at + 1 + size,
     })
@@ -95,33 +89,23 @@ pub fn reach_kind(links: usize) -> entries::Kind
 }
 
 // The walk from the front over the five sections, where `most` booleans pass and more are refused `excess`: refusals 2 to 4, and 26.
-pub fn lay_out(query: &[u8], links: usize, most: usize, excess: usize) -> FullChecked
-    ensures { LaidOut result query.now links most excess }
+pub fn lay_out(
+    query: &[u8],
+    links: usize,
+    most: usize,
+    excess: Fault,
+) -> Result<FullLayout, Refusal>
+    ensures { LaidOut result query.now links most (number_of excess) }
 {
     let entry_width = entries::width(entry_kind(links));
     let reach_width = entries::width(reach_kind(links));
-    let terms = match read_section(query, 0, 16, 3, entry_width) {
-        Read::Refused(k, place) => return FullChecked::Refused(k, place),
-        Read::Section(part) => part,
-    };
-    let equal = match read_section(query, terms.next, 60, 3, 3) {
-        Read::Refused(k, place) => return FullChecked::Refused(k, place),
-        Read::Section(part) => part,
-    };
-    let reach = match read_section(query, equal.next, 60, 3, reach_width) {
-        Read::Refused(k, place) => return FullChecked::Refused(k, place),
-        Read::Section(part) => part,
-    };
-    let field = match read_section(query, reach.next, 60, 3, 3) {
-        Read::Refused(k, place) => return FullChecked::Refused(k, place),
-        Read::Section(part) => part,
-    };
-    let boolean = match read_section(query, field.next, most, excess, 2) {
-        Read::Refused(k, place) => return FullChecked::Refused(k, place),
-        Read::Section(part) => part,
-    };
+    let terms = read_section(query, 0, 16, Fault::CountAboveLimit, entry_width)?;
+    let equal = read_section(query, terms.next, 60, Fault::CountAboveLimit, 3)?;
+    let reach = read_section(query, equal.next, 60, Fault::CountAboveLimit, reach_width)?;
+    let field = read_section(query, reach.next, 60, Fault::CountAboveLimit, 3)?;
+    let boolean = read_section(query, field.next, most, excess, 2)?;
     if boolean.next < query.len() {
-        return FullChecked::Refused(4, boolean.next);
+        return Err(Fault::TrailingBytes.at(boolean.next));
     }
     let layout = Layout {
         links,
@@ -133,7 +117,7 @@ pub fn lay_out(query: &[u8], links: usize, most: usize, excess: usize) -> FullCh
         field_at: reach.next + 1,
         field_count: field.count,
     };
-    FullChecked::Accepted(FullLayout {
+    Ok(FullLayout {
         layout,
         boolean_at: field.next + 1,
         boolean_count: boolean.count,

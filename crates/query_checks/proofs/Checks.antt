@@ -7,6 +7,7 @@ use mathlib.Core.Logic.{⊎_elim}
 use mathlib.Core.Bool.{true}
 use mathlib.Core.List.Memᴰ
 use mathlib.Core.List.{List, [], ◌∷◌, Memᴰ}
+use Rattle.std.specs.Prelude.{Result, Ok, Err}
 use mathlib.Core.Option.{Option, none, some, Option-elim}
 use lib.ListN.{length, take, drop, length-drop}
 use lib.Seq.{drop-length, length-take-le}
@@ -19,13 +20,11 @@ use Rattle.theory.proofs.Query.AcceptedBytes.{five_excesses}
 use Rattle.entries.specs.Entries.{width_of}
 use Rattle.query.specs.declared.Layout.{Layout}
 use Rattle.query.specs.declared.FullLayout.{FullLayout}
-use Rattle.query.specs.declared.FullChecked.{FullChecked}
-use Rattle.query.specs.declared.FullChecked.TheVariants as full
+use Rattle.refusals.specs.declared.Refusal.{Refusal}
 use Rattle.query.specs.Forms.{entry_kind, reach_kind, form_by}
 use Rattle.query.specs.Sections.{Stands, Sections}
 use Rattle.query.specs.LaysOut.{LaysOutAs, FullLaysOut}
 use Rattle.query.proofs.Reading.{with_limit, pass_parts}
-use Rattle.query_checks.specs.declared.Checked.TheVariants as checked
 use Rattle.query_checks.specs.Answers.{ByteAnswer, FullCheckedAs, CheckedAs}
 
 -- Refusals 2, 3, 26 and 4
@@ -191,13 +190,13 @@ module _ (full : FullLayout) (bytes : List ℕ) (s : Sections full bytes) (most 
         }
 
 -- what the search of the bytes answers, of a query in the form of 01
-pub five_checked : (r : FullChecked) (l : FullLayout) (bytes : List ℕ) (most excess : ℕ) → Sections l bytes → l.boolean_count ≤ most →
+pub five_checked : (r : Result FullLayout Refusal) (l : FullLayout) (bytes : List ℕ) (most excess : ℕ) → Sections l bytes → l.boolean_count ≤ most →
     l.layout.links ≡ 1 → ByteAnswer r l (form_by l.layout.links most excess) bytes → FullCheckedAs r bytes most excess
-five_checked (full.Refused k place) l bytes most excess s few one h = λ m. rw (one_form, ← one) h
-five_checked (full.Accepted l') l bytes most excess s few one h =
+five_checked (Err e) l bytes most excess s few one h = λ m. rw (one_form, ← one) h
+five_checked (Ok l') l bytes most excess s few one h =
     (rw (one_form, ← one) h.0, subst (λ (m : FullLayout). FullLaysOut m bytes most excess) (sym h.1) (lays_out l bytes s most excess few one))
 
 -- an accepted query passes every check
-pub checked-accepts : (l : Layout) (bytes : List ℕ) → CheckedAs (checked.Accepted l) bytes → accepts bytes ≡ true
+pub checked-accepts : (l : Layout) (bytes : List ℕ) → CheckedAs (Ok l) bytes → accepts bytes ≡ true
 unfolding accepts_by is_some
 checked-accepts l bytes h = rw (h.0 (record { order = []; query = bytes; room = 0 }) refl)

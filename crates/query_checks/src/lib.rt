@@ -1,57 +1,55 @@
 // Refusals 5 to 8 of the bytes of a query that is laid out, and the checks of a query in the form of 01: refusals 2 to 8 and 26.
 #![tactic(auto)]
 
+ghost use Rattle.refusals.specs.Numbers.{number_of};
 ghost use Rattle.query.specs.Sections.{Sections};
 ghost use Rattle.query_checks.specs.Answers.{FoundIn, PassesIn, BytesChecked, FullCheckedAs, CheckedAs};
 
-use query::{FullChecked, FullLayout, Layout};
-
-// A query that is refused, with the refusal's number and place, or one that is accepted.
-#[derive(Drop)]
-pub enum Checked {
-    Refused(usize, usize),
-    Accepted(Layout),
-}
+use query::{FullLayout, Layout};
+use refusals::{Fault, Refusal};
 
 // "For 5 to 8 the whole query is searched for one fault before the next, and the place is the lowest such byte."
-fn byte_fault(k: usize, query: &[u8], full: FullLayout) -> entries::Found
+fn byte_fault(fault: Fault, query: &[u8], full: FullLayout) -> Option<usize>
     requires { Sections full query.now }
-    ensures { FoundIn result k full.layout.links query.now }
+    ensures { FoundIn result (number_of fault) full.layout.links query.now }
 {
     let l = full.layout;
     let n = l.terms;
-    match entries::section_fault(k, query::entry_kind(l.links), n, query, 1, n) {
-        entries::Found::At(p) => return entries::Found::At(p),
-        entries::Found::Nothing => {}
+    if let Some(place) = entries::section_fault(fault, query::entry_kind(l.links), n, query, 1, n) {
+        return Some(place);
     }
-    match entries::section_fault(k, entries::Kind::Pairs, n, query, l.equal_at, l.equal_count) {
-        entries::Found::At(p) => return entries::Found::At(p),
-        entries::Found::Nothing => {}
+    if let Some(place) = entries::section_fault(
+        fault,
+        entries::Kind::Pairs,
+        n,
+        query,
+        l.equal_at,
+        l.equal_count,
+    ) {
+        return Some(place);
     }
-    match entries::section_fault(
-        k,
+    if let Some(place) = entries::section_fault(
+        fault,
         query::reach_kind(l.links),
         n,
         query,
         l.reach_at,
         l.reach_count,
     ) {
-        entries::Found::At(p) => return entries::Found::At(p),
-        entries::Found::Nothing => {}
+        return Some(place);
     }
-    match entries::section_fault(
-        k,
+    if let Some(place) = entries::section_fault(
+        fault,
         entries::Kind::Fields,
         n,
         query,
         l.field_at,
         l.field_count,
     ) {
-        entries::Found::At(p) => return entries::Found::At(p),
-        entries::Found::Nothing => {}
+        return Some(place);
     }
     entries::section_fault(
-        k,
+        fault,
         entries::Kind::Booleans,
         n,
         query,
@@ -88,44 +86,39 @@ fn bytes_pass(query: &[u8], full: FullLayout) -> bool
 }
 
 // Refusals 5 to 8, of a query that is laid out. Most queries pass, which one look at each byte tells: only the others are searched.
-pub fn check_bytes(query: &[u8], full: FullLayout) -> FullChecked
+pub fn check_bytes(query: &[u8], full: FullLayout) -> Result<FullLayout, Refusal>
     requires { Sections full query.now }
     ensures { BytesChecked result full query.now }
 {
     if bytes_pass(query, full) {
-        return FullChecked::Accepted(full);
+        return Ok(full);
     }
-    let mut k: usize = 5;
-    while k < 9 {
-        match byte_fault(k, query, full) {
-            entries::Found::At(place) => return FullChecked::Refused(k, place),
-            entries::Found::Nothing => {}
+    for fault in [
+        Fault::TermByte,
+        Fault::Sign,
+        Fault::TermNumber,
+        Fault::FieldNumber,
+    ] {
+        if let Some(place) = byte_fault(fault, query, full) {
+            return Err(fault.at(place));
         }
-        k += 1;
     }
-    FullChecked::Accepted(full)
+    Ok(full)
 }
 
 // "Refusals, in checking order", of a query in the form where `most` booleans pass and more are refused `excess`: 2 to 8, and `excess`
 // before 4.
-pub fn check_with(query: &[u8], most: usize, excess: usize) -> FullChecked
-    ensures { FullCheckedAs result query.now most excess }
+pub fn check_with(query: &[u8], most: usize, excess: Fault) -> Result<FullLayout, Refusal>
+    ensures { FullCheckedAs result query.now most (number_of excess) }
 {
-    match query::lay_out(query, 1, most, excess) {
-        FullChecked::Refused(k, place) => FullChecked::Refused(k, place),
-        FullChecked::Accepted(full) => check_bytes(query, full),
-    }
+    let full = query::lay_out(query, 1, most, excess)?;
+    check_bytes(query, full)
 }
 
 // The same of a query as it is now: "Its count must now be 0", and 26 "instead of 3" (02, R-13).
-pub fn check(query: &[u8]) -> Checked
+pub fn check(query: &[u8]) -> Result<Layout, Refusal>
     ensures { CheckedAs result query.now }
 {
-    match check_with(query, 0, 26) {
-        FullChecked::Refused(k, place) => Checked::Refused(k, place),
-        FullChecked::Accepted(full) => {
-            let l = full.layout;
-            Checked::Accepted(l)
-        }
-    }
+    let full = check_with(query, 0, Fault::BooleanCount)?;
+    Ok(full.layout)
 }

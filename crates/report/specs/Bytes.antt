@@ -10,6 +10,8 @@ use Rattle.facts.specs.declared.Facts.{Facts}
 use Rattle.facts.specs.Path.{rep_of, path_of}
 use Rattle.query.specs.declared.Layout.{Layout}
 use Rattle.query.specs.LaysOut.{literal_in}
+use Rattle.heap_nodes.specs.Nodes.{marked, Numbers}
+use Rattle.report.specs.declared.Nodes.{Nodes}
 use Rattle.link_query.specs.Said.{said, Within}
 
 -- "set exactly by a plain literal": the field j of the node of term v
@@ -24,6 +26,13 @@ literals_at query at count = map (literal_in query at) (from (count - 0) 0)
 abbrev pub FieldsIn : List ℕ → ℕ → ℕ → (ℕ → ℕ) → Type 0
 FieldsIn query at count rep =
     (i : ℕ) → i < count → ((literal_in query at i).left ≤ 8) × ((literal_in query at i).right ≤ 16) × (rep (literal_in query at i).right ≤ 16)
+
+-- the terms that are nodes, counted and numbered
+pub record Numbered (nodes : Nodes) : Type 0 where
+  pub terms_within : nodes.terms ≤ 16
+  pub few : nodes.count ≤ 16
+  pub counted : nodes.count ≡ length (marked nodes.marks nodes.terms)
+  pub numbers : Numbers nodes.list (marked nodes.marks nodes.terms)
 
 -- What a report is written of: an accepted query, and facts of its links in which every term stands for a term.
 pub record Reportable (l : Layout) (query : List ℕ) (s : Facts) : Type 0 where

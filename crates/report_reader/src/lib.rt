@@ -65,13 +65,11 @@ pub fn booleans_in(report: &[u8]) -> usize
 fn all_nodes(report: &[u8], m: usize, at: usize, end: usize) -> bool
     ensures { result ≡ all (λ i. is_node m (get_or report.now i 0)) (from (end - at) at) }
 {
-    let mut i = at;
-    while i < end {
+    for i in at..end {
         let v = byte_at(report, i);
         if (v == 0) | (m < v) {
             return false;
         }
-        i += 1;
     }
     true
 }
@@ -80,12 +78,10 @@ fn all_nodes(report: &[u8], m: usize, at: usize, end: usize) -> bool
 fn all_zero(report: &[u8], at: usize) -> bool
     ensures { result ≡ all (λ i. eqb (get_or report.now i 0) 0) (from (length report.now - at) at) }
 {
-    let mut i = at;
-    while i < report.len() {
-        if byte_at(report, i) != 0 {
+    for i in at..report.len() {
+        if report[i] != 0 {
             return false;
         }
-        i += 1;
     }
     true
 }

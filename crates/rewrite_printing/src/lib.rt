@@ -6,20 +6,19 @@ ghost use Rattle.text.specs.Text.{Writes};
 ghost use Rattle.rewriter.specs.Promise.{meaning};
 ghost use Rattle.rewrite_printing.specs.RewriteText.{answer_text, text_of, rewritequery_text};
 
-use rewriter::Rewritten;
+use refusals::Refusal;
 
 // What a call answers that writes a query: the query, which stands in `out`, or the refusal.
-pub fn put_answer(buffer: &mut [u8], answer: Rewritten, out: &[u8]) -> usize
+pub fn put_answer(buffer: &mut [u8], answer: Result<usize, Refusal>, out: &[u8]) -> usize
     requires { length out.now ≤ 1000 }
     ensures { Writes buffer.old 0 (answer_text (meaning answer) out.now) buffer.new result }
 {
-    let size = out.len();
     match answer {
-        Rewritten::Written(length) => {
-            let end = check_printing::at_most(length, size);
+        Ok(length) => {
+            let end = length.min(out.len());
             hex_lines::put_hex_line(buffer, 0, &out[..end])
         }
-        Rewritten::Refused(k, place) => wording::put_refusal(buffer, 0, k, place),
+        Err(e) => wording::put_refusal(buffer, 0, e.fault.number(), e.place),
     }
 }
 

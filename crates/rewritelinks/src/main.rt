@@ -7,6 +7,6 @@ fn main(rt: HostRuntime) {
     let mut text = [0u8; 1911];
     let read = streams::read_full(&rt, &mut input);
     let made = link_printing::put_text(&mut text, &input[..read]);
-    let end = check_printing::at_most(made, 1911);
+    let end = made.min(1911);
     streams::write_all(&rt, &text[..end]);
 }

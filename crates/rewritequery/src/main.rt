@@ -6,6 +6,6 @@ fn main(rt: HostRuntime) {
     let mut text = [0u8; 1683];
     let read = streams::read_full(&rt, &mut input);
     let made = rewrite_printing::put_text(&mut text, &input[..read]);
-    let end = check_printing::at_most(made, 1683);
+    let end = made.min(1683);
     streams::write_all(&rt, &text[..end]);
 }

@@ -7,14 +7,8 @@ ghost use Rattle.rewriting.specs.Call.{rewrite_call};
 ghost use Rattle.rewriter.specs.Bytes.{cut, field_bytes, term_bytes, data_bytes, rewritten_bytes};
 ghost use Rattle.rewriter.specs.Promise.{Does, Passing};
 
-use query::{FullChecked, FullLayout};
-
-// What the call answers: the length of the query written, or a refusal's number and place.
-#[derive(Drop)]
-pub enum Rewritten {
-    Written(usize),
-    Refused(usize, usize),
-}
+use query::FullLayout;
+use refusals::{Fault, Refusal};
 
 // The bytes of the query from one place to another.
 pub fn put_part(query: &[u8], from: usize, end: usize, out: &mut [u8], to: usize) -> usize
@@ -40,13 +34,9 @@ fn put_fields(booleans: &[u8], count: usize, fresh: u8, out: &mut [u8], to: usiz
     ensures { Writes out.old to (field_bytes fresh booleans.now) out.new result }
 {
     let mut next = to;
-    let mut k: usize = 0;
-    while k < count {
+    for k in 0..count {
         let at = 2 * k;
-        let sign = booleans[at];
-        let number = booleans[at + 1];
-        next = put_field(out, next, sign, number, fresh);
-        k += 1;
+        next = put_field(out, next, booleans[at], booleans[at + 1], fresh);
     }
     next
 }
@@ -104,7 +94,7 @@ fn put_query(
 }
 
 // A query that passes its checks, in a blank buffer. A rewritten query has a byte more for the term, and one for each boolean.
-fn rewrite_checked(query: &[u8], full: FullLayout, out: &mut [u8]) -> Rewritten
+fn rewrite_checked(query: &[u8], full: FullLayout, out: &mut [u8]) -> Result<usize, Refusal>
     requires { Passing full query.now × (out.old ≡ replicate (length out.old) 0) }
     ensures { Does (rewrite_call query.now (length out.old)) result out.new }
 {
@@ -116,33 +106,31 @@ fn rewrite_checked(query: &[u8], full: FullLayout, out: &mut [u8]) -> Rewritten
     let size = query.len();
     if count == 0 {
         if room < size {
-            return Rewritten::Refused(27, 0);
+            return Err(Fault::RewriteRoom.at(0));
         }
         let length = text::put_bytes(out, 0, query);
-        return Rewritten::Written(length);
+        return Ok(length);
     }
     if n == 16 {
-        return Rewritten::Refused(27, 0);
+        return Err(Fault::RewriteRoom.at(0));
     }
     if 60 < fields + count {
-        return Rewritten::Refused(27, 0);
+        return Err(Fault::RewriteRoom.at(0));
     }
     if room < size + count + 1 {
-        return Rewritten::Refused(27, 0);
+        return Err(Fault::RewriteRoom.at(0));
     }
     let fourth = n + 3 * l.equal_count + 3 * l.reach_count + 3;
     let length = put_query(query, n, fourth, fields, count, out);
-    Rewritten::Written(length)
+    Ok(length)
 }
 
 // The query that an old query becomes: its length and zeros past it; or a refusal, and zeros. "the rewriting keeps 2 to 8 as they stood, then
 // 27, no room for the term, the literals or the output"
-pub fn rewrite(query: &[u8], out: &mut [u8]) -> Rewritten
+pub fn rewrite(query: &[u8], out: &mut [u8]) -> Result<usize, Refusal>
     ensures { Does (rewrite_call query.now (length out.old)) result out.new }
 {
     lent::clear(out);
-    match query_checks::check_with(query, 60, 3) {
-        FullChecked::Refused(k, place) => Rewritten::Refused(k, place),
-        FullChecked::Accepted(full) => rewrite_checked(query, full, out),
-    }
+    let full = query_checks::check_with(query, 60, Fault::CountAboveLimit)?;
+    rewrite_checked(query, full, out)
 }

@@ -173,9 +173,6 @@ none_bound s f xs r h = h
 pub room_inside : (xs ys : List ℕ) (d i : ℕ) → length ys ≡ length xs → d + i < length xs → d < length ys
 room_inside xs ys d i e h = omega (arith, e, h)
 
-pub room_more : (xs ys : List ℕ) (d i v : ℕ) → length ys ≡ length xs → d + i < length xs → d + 1 + i ≤ length (set ys d v)
-room_more xs ys d i v e h = omega (arith, length-set ys d v, e, h)
-
 -- all nodes, counted as a loop does
 pub all_nodes : (f : ℕ → Bool) (m n : ℕ) (b : Bool) → m ≡ n → all f (from (m + 1 - 1) 1) ≡ b → b ≡ all f (from n 1)
 all_nodes f m n b e h = sym h ∙ ap (λ (k : ℕ). all f (from k 1)) count

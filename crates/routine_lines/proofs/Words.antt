@@ -1,7 +1,7 @@
 -- The words of a fault's line.
 use Prim.Native.Nat.{ℕ}
 use mathlib.Core.Path.{◌≡◌, refl}
-use mathlib.Core.List.{List, ◌++◌}
+use mathlib.Core.List.{◌++◌}
 use Rattle.text.specs.Text.{ascii, decimal}
 use Rattle.routine_text.specs.Builder.{Fault}
 use Rattle.routine_lines.specs.declared.FaultWord.{FaultWord}

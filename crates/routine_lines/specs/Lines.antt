@@ -1,12 +1,12 @@
 -- What the program routinechecks prints of a text, byte for byte (03, "Answers"): the checks of each routine, all of them undecided, or the fault.
-use Rattle.std.specs.Prelude.{ℕ, ◌-◌, List, [], ◌∷◌, ◌++◌, length, get_or}
+use Rattle.std.specs.Prelude.{ℕ, ◌-◌, List, [], ◌++◌, length, get_or}
 use Rattle.logic.specs.Search.{flat_map}
 use Rattle.text.specs.Text.{ascii, decimal}
 use Rattle.routine_logic.specs.Syntax.{Base, null, variable, bound, Term}
 use Rattle.routine_logic.specs.Runs.{Kind, null_of, asserted, covered, entry, kept, ensured}
 use Rattle.routine_logic.specs.Checks.{Listed, checks}
 use Rattle.routine_text.specs.Builder.{Word, no_word, Fault, text_fault, name_fault, forall_fault, limit_fault, Named}
-use Rattle.routine_text.specs.Reading.{Contents, Reading, read, faulty}
+use Rattle.routine_text.specs.Reading.{Reading, read, faulty}
 
 -- the name of that number
 unfoldable pub name_of : List Word → ℕ → List ℕ

@@ -1,10 +1,10 @@
 -- A routine and its lines, worked by hand.
-use Rattle.std.specs.Prelude.{ℕ, ◌≡◌, List, [], ◌∷◌, ◌++◌}
+use Rattle.std.specs.Prelude.{ℕ, ◌≡◌, [], ◌∷◌, ◌++◌}
 use Prim.Native.String.{String}
 use Rattle.text.specs.Text.{ascii}
-use Rattle.routine_logic.specs.Syntax.{null, variable, Term, always, equal, unequal, Place, Clause, Code, end, assign_link, assert, cover, loop, Routine}
-use Rattle.routine_text.specs.Builder.{Word, limit_fault, Named}
-use Rattle.routine_text.specs.Reading.{Contents, Reading, read, faulty}
+use Rattle.routine_logic.specs.Syntax.{null, variable, Term, always, equal, unequal, Place, end, assign_link, assert, cover, loop, Routine}
+use Rattle.routine_text.specs.Builder.{Word, limit_fault}
+use Rattle.routine_text.specs.Reading.{Reading, read, faulty}
 use Rattle.routine_lines.specs.Lines.{checks_text}
 
 abbrev pub word : String → Word

@@ -7,7 +7,7 @@ ghost use Rattle.routine_lines.specs.Words.{word_of};
 ghost use Rattle.routine_lines.specs.Lines.{fault_word, place_text, fault_text};
 
 // The word of a fault.
-#[derive(Drop)]
+#[derive(Clone, Copy, PartialEq, Eq)]
 pub enum FaultWord {
     Text,
     Name,

@@ -2,7 +2,7 @@
 use Prim.Native.Nat.{ℕ, zero, suc, ◌+◌, ◌≤◌, ◌<◌}
 use native.Mathlib.Numerals.{add-one}
 use borrow.Author.Tests.{eq-eqb, ne_eqb}
-use mathlib.Core.Path.{◌≡◌, refl, ap, sym, ◌∙◌}
+use mathlib.Core.Path.{◌≡◌, refl, ap, sym, subst, ◌∙◌}
 use mathlib.Core.Bool.{Bool, true, false, cond}
 use mathlib.Core.List.{List, [], ◌∷◌, ◌++◌}
 use mathlib.Core.Option.{Option, some}
@@ -16,7 +16,7 @@ use Rattle.routine_logic.specs.Formulas.{base_node, follow, node}
 use Rattle.routine_logic.specs.Runs.{prefixes, dereferenced}
 use Rattle.routine_table.specs.Cells.{Table, cell, base_of, links_of, term_of}
 use Rattle.routine_formulas.specs.Names.{bound_in}
-use Rattle.routine_nulls.specs.declared.Null.{Null}
+use Rattle.std.specs.Prelude.{Some, None}
 use Rattle.routine_nulls.specs.Nulls.{first_null, prefix_of, null_of}
 
 cond-or : (b : Bool) (t : Term) (o q : Option Term) → cond b (some t) (or_else o q) ≡ or_else (cond b (some t) o) q
@@ -55,6 +55,9 @@ pub record At (s : State) (t : Table) (p k at v : ℕ) : Type 0 where
   pub left : drop k (links_of (drop (p + 1) t)) ≡ links_of (drop at t)
   pub looks : first_null s (dereferenced (term_of t p)) ≡ first_null s (prefixes (prefix_of t p k) (links_of (drop at t)))
 
+pub behind_links : {s : State} {t : Table} {p k m at v : ℕ} → k ≡ m → At s t p k at v → At s t p m at v
+behind_links {s} {t} {p} {k} {m} {at} {v} e a = subst (λ (n : ℕ). At s t p n at v) e a
+
 module _ (s : State) (t : Table) where
   pub at_begin : (p c v : ℕ) (xs : List ℕ) → c ≡ cell t p → v ≡ base_node s (bound_in xs 0) (base_of c) → At s t p 0 (p + 1) v
   unfolding node follow prefix_of dereferenced term_of bound_in
@@ -72,21 +75,21 @@ module _ (s : State) (t : Table) where
   unfolding links_of
   links_end at h = rw (drop_of_length-le t {i = at} h)
 
-  nowhere : (p k at v : ℕ) → At s t p k at v → links_of (drop at t) ≡ [] → null_of t p Null.Nowhere ≡ first_null s (dereferenced (term_of t p))
+  nowhere : (p k at v : ℕ) → At s t p k at v → links_of (drop at t) ≡ [] → null_of t p None ≡ first_null s (dereferenced (term_of t p))
   unfolding null_of first_null prefixes
   nowhere p k at v a h = sym (a.looks ∙ ap (λ (is : List ℕ). first_null s (prefixes (prefix_of t p k) is)) h)
 
-  pub null_done : (p k at i v : ℕ) → At s t p k at v → at < length t → i ≡ cell t at → i ≡ 0 → null_of t p Null.Nowhere ≡ first_null s (dereferenced (term_of t p))
+  pub null_done : (p k at i v : ℕ) → At s t p k at v → at < length t → i ≡ cell t at → i ≡ 0 → null_of t p None ≡ first_null s (dereferenced (term_of t p))
   null_done p k at i v a h e z = nowhere p k at v a (links-none at i h e z)
 
-  pub null_end : (p k at v : ℕ) → At s t p k at v → length t ≤ at → null_of t p Null.Nowhere ≡ first_null s (dereferenced (term_of t p))
+  pub null_end : (p k at v : ℕ) → At s t p k at v → length t ≤ at → null_of t p None ≡ first_null s (dereferenced (term_of t p))
   null_end p k at v a h = nowhere p k at v a (links_end at h)
 
   module _ (p k at i v : ℕ) (a : At s t p k at v) (inside : at < length t) (read : i ≡ cell t at) (more : i ≡ 0 → ⊥) where
     looks_next : first_null s (dereferenced (term_of t p)) ≡ first_null s (prefixes (prefix_of t p k) (i ∷ links_of (drop (at + 1) t)))
     looks_next = a.looks ∙ ap (λ (is : List ℕ). first_null s (prefixes (prefix_of t p k) is)) (links_next at i inside read more)
 
-    pub null_here : v ≡ 1 → null_of t p (Null.At k) ≡ first_null s (dereferenced (term_of t p))
+    pub null_here : v ≡ 1 → null_of t p (Some k) ≡ first_null s (dereferenced (term_of t p))
     unfolding null_of first_null prefixes
     null_here h = sym (looks_next ∙ rw (eq-eqb (node s [] (prefix_of t p k)) 1 (sym a.node_is ∙ h)))
 

@@ -7,7 +7,8 @@ use Rattle.routine_logic.specs.Formulas.{node}
 use Rattle.routine_logic.specs.Runs.{Kind, Check}
 use Rattle.routine_logic.specs.Shown.{same_check, own_line, Given, Shown}
 use Rattle.routine_table.specs.Cells.{Table, cell, base_of, links_of}
-use Rattle.routine_nulls.specs.declared.Null.{Null}
+use Rattle.std.specs.Prelude as code
+use Rattle.std.specs.Prelude.{Some, None}
 
 -- the first of some terms that is NULL
 unfoldable pub first_null : State → List Term → Option Term
@@ -24,6 +25,6 @@ unfoldable pub prefix_of : Table → ℕ → ℕ → Term
 prefix_of t p k = record { base = base_of (cell t p); links = take k (links_of (drop (p + 1) t)) }
 
 -- what an answer says of the term at p
-unfoldable pub null_of : Table → ℕ → Null → Option Term
-null_of t p (Null.At k) = some (prefix_of t p k)
-null_of t p Null.Nowhere = none
+unfoldable pub null_of : Table → ℕ → code.Option ℕ → Option Term
+null_of t p (Some k) = some (prefix_of t p k)
+null_of t p None = none

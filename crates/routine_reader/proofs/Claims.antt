@@ -1,28 +1,28 @@
 -- The claims of the code's answers, from the theorems about LL(1) grammars.
-use Prim.Native.Nat.{ℕ, zero, suc, ◌+◌, ◌-◌, ◌≤◌, ◌<◌}
+use Prim.Native.Nat.{ℕ, zero, suc, ◌-◌, ◌≤◌, ◌<◌}
 use native.Mathlib.Omega.{arith}
 use mathlib.Core.Path.{◌≡◌, refl, sym, ap, ◌∙◌}
 use mathlib.Core.Logic.{⊎_elim}
-use mathlib.Core.Bool.{Bool, true, false, not}
-use mathlib.Core.List.{List, [], ◌∷◌, map}
+use mathlib.Core.Bool.{true}
+use mathlib.Core.List.{List, [], ◌∷◌}
 use lib.ListN.{length, drop}
 use lib.Dec.{eqb, ltb}
-use borrow.Author.Tests.{eq-eqb, ne_eqb, lt-ltb, eqb-true, eqb-false, ltb-true, ltb-false}
-use Rattle.logic.specs.Search.{◌and◌, all, select}
+use borrow.Author.Tests.{lt-ltb, eqb-false, ltb-true, ltb-false}
+use Rattle.logic.specs.Search.{all, select}
 use Rattle.theory.proofs.Basics.Search.{bool_cases, true-false, and_intro}
-use Rattle.grammar_theory.specs.Grammar.{Kinds, Step, Steps}
-use Rattle.grammar_theory.specs.Machine.{accepted, stuck, unfinished, after}
+use Rattle.grammar_theory.specs.Grammar.{Steps}
+use Rattle.grammar_theory.specs.Machine.{accepted, after}
 use Rattle.grammar_theory.specs.LL1.{parse}
-use Rattle.grammar_theory.specs.Claims.{plain, ended, Correct}
+use Rattle.grammar_theory.specs.Claims.{plain, ended}
 use Rattle.routine_tokens.specs.declared.Token.{Token}
 use Rattle.routine_tokens.specs.Tokens.{token_from, tokens_in, tokens}
 use Rattle.routine_text.specs.Grammar.{grammar, predictions, facts}
 use Rattle.routine_text.specs.Reading.{kinds_of}
-use Rattle.routine_text.specs.Claims.{kinds, Grammatical}
+use Rattle.routine_text.specs.Claims.{kinds}
 use Rattle.routine_text.proofs.Claims.{correct}
 use Rattle.routine_reader.specs.Answers.{nothing, recognised}
 use Rattle.routine_reader.specs.Claims.{RecogniserClaims}
-use Rattle.routine_reader.proofs.Coming.{from_sound, rest_of, rest_last, rest_more, coming}
+use Rattle.routine_reader.proofs.Coming.{from_sound, rest_last, rest_more, coming}
 use Rattle.routine_reader.proofs.Moves.{kinds_more}
 
 -- the kinds of a list's last token

@@ -1,19 +1,19 @@
 -- The tokens that come behind a place.
-use Prim.Native.Nat.{ℕ, zero, suc, ◌+◌, ◌*◌, ◌-◌, ◌≤◌, ◌<◌}
+use Prim.Native.Nat.{ℕ, suc, ◌+◌, ◌*◌, ◌-◌, ◌≤◌, ◌<◌}
 use native.Mathlib.Omega.{arith}
-use mathlib.Core.Path.{◌≡◌, refl, sym, ap, ◌∙◌}
+use mathlib.Core.Path.{◌≡◌, refl, ap, ◌∙◌}
 use mathlib.Core.Logic.{⊎_elim}
-use mathlib.Core.Bool.{Bool, true, false, not, cond}
-use mathlib.Core.List.{List, [], ◌∷◌, ◌++◌}
+use mathlib.Core.Bool.{true, false, cond}
+use mathlib.Core.List.{List, [], ◌∷◌}
 use lib.ListN.{length, drop, length-drop}
 use lib.Seq.{drop-drop}
 use lib.Dec.{eqb, ltb, leb}
 use borrow.Author.Tests.{lt-ltb, le-ltb, ltb-true, ltb-false, leb-true}
 use Rattle.logic.specs.Search.{◌and◌, from, all}
-use Rattle.theory.proofs.Basics.Search.{bool_cases, true-false, all_true, from_intro}
+use Rattle.theory.proofs.Basics.Search.{bool_cases, all_true, from_intro}
 use Rattle.text.specs.Text.{is_digit}
 use Rattle.routine_tokens.specs.declared.Token.{Token}
-use Rattle.routine_tokens.specs.Tokens.{is_word_byte, word_length, separators, row_of, row_length, reserved_kind, digit_kind, word_kind, sign_table}
+use Rattle.routine_tokens.specs.Tokens.{is_word_byte, word_length, separators, row_length, reserved_kind, digit_kind, word_kind, sign_table}
 use Rattle.routine_tokens.specs.Tokens.{token_of, word_of, sign_of, token_at, token_behind, token_in, token_from, tokens_behind, tokens_in}
 
 -- A token has a kind below 45; one that is not the end stands among the bytes, and one that is a word or a sign ends behind the place.

@@ -1,17 +1,16 @@
 -- Where the code is in reading a text, and what each turn makes of it.
-use Prim.Native.Nat.{ℕ, zero, suc, ◌+◌, ◌*◌, ◌-◌, ◌≤◌, ◌<◌}
+use Prim.Native.Nat.{ℕ, suc, ◌+◌, ◌*◌, ◌-◌, ◌≤◌, ◌<◌}
 use native.Mathlib.Omega.{arith}
 use mathlib.Core.Path.{◌≡◌, refl, sym, ap, ◌∙◌, subst}
 use mathlib.Core.Bool.{Bool, true, false}
 use mathlib.Core.List.{List, [], ◌∷◌, ◌++◌, append_assoc}
 use lib.ListN.{length, drop, get_or, set}
 use lib.Seq.{get_or-set_same}
-use lib.Dec.{leb}
-use borrow.Author.Tests.{leb-true, le-leb}
+use borrow.Author.Tests.{leb-true}
 use Rattle.logic.specs.Search.{◌and◌, all}
 use Rattle.theory.proofs.Basics.Search.{and_left, and_right}
 use Rattle.grammar_theory.specs.Grammar.{Kinds, symbol_of}
-use Rattle.grammar_theory.specs.Machine.{Ending, accepted, stuck, unfinished, start}
+use Rattle.grammar_theory.specs.Machine.{accepted, stuck, unfinished, start}
 use Rattle.grammar_theory.specs.LL1.{moves, weight}
 use Rattle.routine_tokens.specs.declared.Token.{Token}
 use Rattle.routine_tokens.specs.Tokens.{token_from, tokens_in, tokens}
@@ -22,7 +21,7 @@ use Rattle.routine_reader.specs.Stack.{stack_of, pushed, symbols_of}
 use Rattle.routine_reader.specs.Answers.{recognised, Left}
 use Rattle.routine_reader.proofs.Stack.{stack_top}
 use Rattle.routine_reader.proofs.Choices.{chosen_some}
-use Rattle.routine_reader.proofs.Coming.{Sound, from_sound, rest_of, rest_last, rest_more, coming}
+use Rattle.routine_reader.proofs.Coming.{from_sound, rest_of, rest_last, rest_more, coming}
 use Rattle.routine_reader.proofs.Moves.{reading, reading_out, no_end, pushed-no_end, move_end, move_more, move_other, move-token, move-action, move-none, move_row}
 
 -- The stack's numbers, the next token and the moves that are left. Behind `place` the tokens are still to be read.
@@ -66,9 +65,12 @@ going_start text =
 -- the stack in its array: at first; empty; with its top
 
 pub going_first : (text stack : List ℕ) {t : Token} → 0 < length stack → t ≡ token_from text 0 →
-    Going text (stack_of (set stack 0 64) 1) t (25 + 25 * length text)
+    Going text (stack_of (set stack 0 64) 1) t (25 + 25 * length text - 0)
 going_first text stack {t} h e =
-    unfold stack_of in rw (get_or-set_same stack 0 64 0 h, e) (going_start text)
+    subst (Going text (stack_of (set stack 0 64) 1) t) all (unfold stack_of in rw (get_or-set_same stack 0 64 0 h, e) (going_start text))
+  where
+    all : 25 + 25 * length text ≡ 25 + 25 * length text - 0
+    all = omega arith
 
 module _ {text : List ℕ} (stack : List ℕ) (height : ℕ) {t : Token} {n : ℕ} (g : Going text (stack_of stack height) t n) where
   pub going_empty : height ≡ 0 → Going text [] t n
@@ -83,18 +85,19 @@ module _ {text : List ℕ} (stack : List ℕ) (height : ℕ) {t : Token} {n : �
       above : 0 < height
       above = omega (arith, h)
 
-pub going_suc : {text codes : List ℕ} {t : Token} {left : ℕ} → Going text codes t left → 0 < left → Going text codes t (suc (left - 1))
-going_suc {text} {codes} {t} {left} g h = subst (Going text codes t) one g
+-- k of n turns are made
+pub going_turn : {text codes : List ℕ} {t : Token} {n k : ℕ} → Going text codes t (n - k) → k < n → Going text codes t (suc (n - (k + 1)))
+going_turn {text} {codes} {t} {n} {k} g h = subst (Going text codes t) one g
   where
-    one : left ≡ suc (left - 1)
+    one : n - k ≡ suc (n - (k + 1))
     one = omega arith
 
-pub going_out : {text codes : List ℕ} {t : Token} {left : ℕ} → Going text codes t left → left ≤ 0 → recognised text ≡ unfinished
-going_out {text} {codes} {t} {left} g h =
+pub going_out : {text codes : List ℕ} {t : Token} {n k : ℕ} → Going text codes t (n - k) → n ≤ k → recognised text ≡ unfinished
+going_out {text} {codes} {t} {n} {k} g h =
     let ts : List Token = token_from text g.place ∷ rest_of text g.place g.count in
-    sym g.same ∙ ap (λ (n : ℕ). reading n codes ts g.eager) none ∙ reading_out codes ts g.eager
+    sym g.same ∙ ap (λ (m : ℕ). reading m codes ts g.eager) none ∙ reading_out codes ts g.eager
   where
-    none : left ≡ 0
+    none : n - k ≡ 0
     none = omega arith
 
 module _ {text codes : List ℕ} {t : Token} {n : ℕ} where

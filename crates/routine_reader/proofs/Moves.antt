@@ -1,19 +1,18 @@
 -- The machine's moves, as the code makes them.
-use Prim.Native.Nat.{ℕ, zero, suc, ◌+◌, ◌*◌, ◌-◌, ◌≤◌, ◌<◌}
+use Prim.Native.Nat.{ℕ, suc, ◌-◌, ◌≤◌, ◌<◌}
 use native.Mathlib.Omega.{arith}
 use mathlib.Core.Path.{◌≡◌, refl, sym, ap, ◌∙◌}
 use mathlib.Core.Logic.{⊎_elim}
-use mathlib.Core.Bool.{Bool, true, false, not, cond}
-use mathlib.Core.List.{List, [], ◌∷◌, ◌++◌, map, map-append, tail}
-use mathlib.Core.Option.{Option, none, some}
-use lib.ListN.{length, drop, get_elem?}
+use mathlib.Core.Bool.{Bool, true, false, cond}
+use mathlib.Core.List.{List, [], ◌∷◌, ◌++◌, map-append, tail}
+use lib.ListN.{get_elem?}
 use lib.Dec.{eqb, ltb, leb}
-use borrow.Author.Tests.{eq-eqb, ne_eqb, lt-ltb, le-ltb, le-leb, eqb-true, eqb-false, ltb-true, ltb-false}
-use Rattle.logic.specs.Search.{◌and◌, select, all}
-use Rattle.theory.proofs.Basics.Search.{bool_cases, and_left, and_right, and_intro}
-use Rattle.grammar_theory.specs.Grammar.{Symbol, token, rule, action, Symbols, Kinds, alternatives, symbol_of}
+use borrow.Author.Tests.{eq-eqb, ne_eqb, lt-ltb, le-ltb, le-leb, eqb-true, ltb-false}
+use Rattle.logic.specs.Search.{select, all}
+use Rattle.theory.proofs.Basics.Search.{bool_cases, and_intro}
+use Rattle.grammar_theory.specs.Grammar.{token, rule, action, Symbols, Kinds, alternatives, symbol_of}
 use Rattle.grammar_theory.specs.Machine.{predicted, next, Move, finish, read, perform, expand, refuse, expand_by, move, State, Ending, accepted, stuck, unfinished}
-use Rattle.grammar_theory.specs.Machine.{after_expand, after_read, after_perform, moved, run, start}
+use Rattle.grammar_theory.specs.Machine.{after_expand, after_read, after_perform, moved, run}
 use Rattle.routine_tokens.specs.declared.Token.{Token}
 use Rattle.routine_text.specs.Grammar.{grammar, predictions}
 use Rattle.routine_text.specs.Reading.{kinds_of}

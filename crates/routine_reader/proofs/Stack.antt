@@ -3,9 +3,9 @@ use Prim.Native.Nat.{ℕ, zero, suc, ◌+◌, ◌*◌, ◌-◌, ◌≤◌, ◌<�
 use native.Mathlib.Omega.{arith}
 use native.Mathlib.Numerals.{add-one}
 use mathlib.Core.Path.{◌≡◌, refl, sym, ap, ◌∙◌}
-use mathlib.Core.List.{List, [], ◌∷◌}
+use mathlib.Core.List.{List, ◌∷◌}
 use lib.ListN.{length, get_or, take, drop, set, length-drop, drop_of_length-le}
-use lib.Seq.{get_or-set_same, get_or-set_other, get_or-take, get_or-drop, length-take-le}
+use lib.Seq.{get_or-set_same, get_or-set_other, length-take-le}
 use borrow.Author.Tests.{lt-ltb, le-ltb}
 use Rattle.text.proofs.Writing.{left_first}
 use Rattle.routine_reader.specs.Rows.{rows, choices, row, choice}
@@ -40,9 +40,13 @@ pub row-length : (j : ℕ) → j < 94 → length (row j) ≡ 16
 unfolding row
 row-length j l = length-take-le 16 (drop (16 * j) rows) (omega (arith, length-rows, length-drop (16 * j) rows))
 
-pub row_number : (j i : ℕ) → i < 16 → get_or (row j) i 0 ≡ get_or rows (16 * j + i) 0
+-- the part of the table that the code reads
+pub row_part : (j : ℕ) (table : List ℕ) → table ≡ rows → take (16 * j + 16 - 16 * j) (drop (16 * j) table) ≡ row j
 unfolding row
-row_number j i l = get_or-take 16 (drop (16 * j) rows) i 0 l ∙ get_or-drop (16 * j) rows i 0
+row_part j table e = ap (λ (n : ℕ). take n (drop (16 * j) table)) size ∙ ap (λ (xs : List ℕ). take 16 (drop (16 * j) xs)) e
+  where
+    size : 16 * j + 16 - 16 * j ≡ 16
+    size = omega arith
 
 module _ (xs stack : List ℕ) (i : ℕ) where
   pub pushed_end : length xs ≤ i → stack ≡ pushed (drop i xs) stack

@@ -1,5 +1,5 @@
 -- How the machine of grammar_theory ends on a text's tokens, its actions doing nothing; and the code's answers in those words.
-use Rattle.std.specs.Prelude.{ℕ, suc, ◌+◌, ◌*◌, ◌<◌, ◌≡◌, List, [], ◌∷◌, ◌++◌, length}
+use Rattle.std.specs.Prelude.{ℕ, ◌+◌, ◌*◌, ◌<◌, ◌≡◌, List, ◌∷◌, ◌++◌, length}
 use Rattle.grammar_theory.specs.Grammar.{Step, Kinds}
 use Rattle.grammar_theory.specs.Machine.{Ending, accepted, stuck, run, start}
 use Rattle.grammar_theory.specs.LL1.{moves}

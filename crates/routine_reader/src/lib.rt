@@ -6,6 +6,8 @@ ghost use Rattle.routine_reader.specs.Rows.{rows, choices, row, choice};
 ghost use Rattle.routine_reader.specs.Stack.{stack_of, pushed};
 ghost use Rattle.routine_reader.specs.Answers.{EndsAs};
 
+// The grammar is data: `rows` and `choices` of specs/ are these numbers in this order, sixteen to an alternative and 45 to a rule, and the
+// proof compares them; kinds of tokens, rules and actions are numbers in them as the grammar's own definition has them.
 const ROWS: [u8; 1504] = [
     70, 71, 65, 0, 0, 0, 0, 0, 0, 0, 0, 0, 0, 0, 0, 0, 65, 40, 66, 6, 0, 0, 0, 0, 0, 0, 0, 0, 0, 0,
     0, 0, 65, 40, 68, 7, 0, 0, 0, 0, 0, 0, 0, 0, 0, 0, 0, 0, 128, 0, 0, 0, 0, 0, 0, 0, 0, 0, 0, 0,
@@ -127,18 +129,12 @@ const CHOICES: [u8; 1890] = [
 ];
 
 // How the machine ends: the text is read; at the place of the first token that no text has there; or the stack's array is full.
-#[derive(Drop)]
+#[derive(Clone, Copy, PartialEq, Eq)]
 pub enum Ended {
     Accepted,
     Stuck(usize),
     Unfinished,
     Full,
-}
-
-fn wide(x: u8) -> usize
-    ensures { result ≡ x }
-{
-    x as usize
 }
 
 // One more than the number of the alternative that a rule has before a token of this kind, or 0.
@@ -147,26 +143,24 @@ fn choice(table: &[u8; 1890], rule: usize, kind: usize) -> usize
     ensures { result ≡ choice rule kind }
 {
     if rule < 42 {
-        return wide(table[45 * rule + kind]);
+        return usize::from(table[45 * rule + kind]);
     }
     0
 }
 
-// The symbols of an alternative are pushed, the last one first.
+// The symbols of an alternative are pushed, the last one first. The stack is a lent array with its height beside: the library takes no heap memory.
 fn push_row(stack: &mut [u8], height: usize, table: &[u8; 1504], j: usize) -> usize
     requires { (j < 94) × (height + 16 ≤ length stack.old) × (table.now ≡ rows) }
     ensures { (stack_of stack.new result ≡ pushed (row j) (stack_of stack.old height)) × (result ≤ height + 16) × (length stack.new ≡ length stack.old) }
 {
     let mut to = height;
-    let mut i: usize = 0;
-    while i < 16 {
-        let c = table[16 * j + i];
-        if c < 2 {
+    let numbers = &table[16 * j..16 * j + 16];
+    for c in numbers {
+        if *c < 2 {
             return to;
         }
-        stack[to] = c;
+        stack[to] = *c;
         to += 1;
-        i += 1;
     }
     to
 }
@@ -184,9 +178,7 @@ pub fn recognise(text: &[u8], stack: &mut [u8]) -> Ended
     stack[0] = 64;
     let mut height: usize = 1;
     let mut t = routine_tokens::next_token(text, 0);
-    let mut left = 25 + 25 * text.len();
-    while 0 < left {
-        left -= 1;
+    for made in 0..25 + 25 * text.len() {
         if height == 0 {
             if t.kind == 0 {
                 return Ended::Accepted;
@@ -194,7 +186,7 @@ pub fn recognise(text: &[u8], stack: &mut [u8]) -> Ended
             return Ended::Stuck(t.start);
         }
         height -= 1;
-        let top = wide(stack[height]);
+        let top = usize::from(stack[height]);
         if top < 64 {
             if top != t.kind {
                 return Ended::Stuck(t.start);

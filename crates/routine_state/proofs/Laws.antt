@@ -81,12 +81,6 @@ steps_whole f n m v w k e h = sym h ∙ ap (λ (j : ℕ). step_count f j v w) e
 
 -- The least step count among n: what is counted and what is left make the whole.
 module _ (f : ℕ → ℕ) (n w : ℕ) where
-  pub steps_begin : (v : ℕ) → step_count f n v w ≡ 0 + step_count f (n - 0) v w
-  steps_begin v = ap (λ (j : ℕ). step_count f j v w) whole ∙ omega arith
-    where
-      whole : n ≡ n - 0
-      whole = omega arith
-
   pub steps-here : (k v : ℕ) → k < n → v ≡ w → k + step_count f (n - k) v w ≡ k
   unfolding step_count
   steps-here k v h e = ap (λ (j : ℕ). k + step_count f j v w) left ∙ ap (λ (b : Bool). k + cond b 0 (suc (step_count f (n - (k + 1)) (f v) w))) (eq-eqb v w e) ∙ omega arith

@@ -9,6 +9,7 @@ use mathlib.Core.List.{List}
 use lib.ListN.{length, get_or, set}
 use lib.Seq.{get_or-set_same, get_or-set_other}
 use lib.Dec.{eqb, ltb}
+use mir.Val.{bool_byte}
 use Rattle.logic.specs.Search.{◌and◌}
 use Rattle.routine_logic.specs.State.{State, changed, changed_at, with_variable, with_link, with_flag}
 use Rattle.routine_state.specs.States.{node_in, in_rows, link_in, flag_in, variable_in, state_in, flag_byte}
@@ -42,6 +43,11 @@ at_other g i x j y a b same other = elim (ℕ_discrete j i) [
 flag_back : (f : Bool) → eqb (flag_byte f) 1 ≡ f
 flag_back true = refl
 flag_back false = refl
+
+-- the byte that the code makes of a flag
+pub byte_of_flag : (f : Bool) (w : ℕ) → w ≡ bool_byte f → w ≡ flag_byte f
+byte_of_flag true w e = e
+byte_of_flag false w e = e
 
 module _ (bytes : List ℕ) where
   -- a store behind the links, before or behind the flags, before the variables, and not of the size

@@ -7,20 +7,15 @@ ghost use Rattle.routine_logic.specs.State.{with_variable, with_link, with_flag}
 ghost use Rattle.routine_logic.specs.Formulas.{reaches_by, between_by};
 ghost use Rattle.routine_state.specs.States.{node_in, link_in, flag_in, variable_in, state_in, flag_byte};
 
-fn wide(byte: u8) -> usize
-    ensures { (result ≡ byte) × (result ≤ 255) }
-{
-    byte as usize
-}
-
-// The byte at a place; 0 behind the end.
+// The byte at a place; 0 behind the end. `tally::byte_at` is the same two lines over `get`: both are public, and a crate below both, for those two
+// lines, would be no plainer.
 pub fn byte_at(bytes: &[u8], p: usize) -> usize
     ensures { (result ≡ get_or bytes.now p 0) × (result ≤ 255) }
 {
-    if p < bytes.len() {
-        return wide(bytes[p]);
+    match bytes.get(p) {
+        Some(byte) => usize::from(*byte),
+        None => 0,
     }
-    0
 }
 
 // The node at a place.
@@ -79,13 +74,11 @@ fn step_count(state: &[u8], i: usize, v: usize, w: usize) -> usize
 {
     let n = size_of(state);
     let mut at = v;
-    let mut k: usize = 0;
-    while k < n {
+    for k in 0..n {
         if at == w {
             return k;
         }
         at = link_of(state, i, at);
-        k += 1;
     }
     n
 }
@@ -124,19 +117,10 @@ pub fn set_link(state: &mut [u8], i: usize, v: usize, w: usize)
     state[32 * i + v] = w as u8;
 }
 
-fn flag_byte(b: bool) -> u8
-    ensures { result ≡ flag_byte b }
-{
-    if b {
-        return 1;
-    }
-    0
-}
-
 // Flag j of node v is set, or not.
 pub fn set_flag(state: &mut [u8], j: usize, v: usize, b: bool)
     requires { (j ≤ 8) × (v ≤ 31) × (449 ≤ length state.old) }
     ensures { (length state.new ≡ length state.old) × (state_in state.new ≡ with_flag (state_in state.old) j v b) }
 {
-    state[128 + 32 * j + v] = flag_byte(b);
+    state[128 + 32 * j + v] = u8::from(b);
 }

@@ -1,5 +1,5 @@
 -- A table worked by hand, and what it says.
-use Rattle.std.specs.Prelude.{ℕ, zero, suc, ◌-◌, ◌≡◌, true, List, [], ◌∷◌, ◌++◌}
+use Rattle.std.specs.Prelude.{ℕ, zero, suc, ◌≡◌, true, List, [], ◌∷◌, ◌++◌}
 use Rattle.routine_logic.specs.Syntax.{Base, null, variable, bound, Term, always, never, equal, unequal, reaches, between, flag, negation, both, either, implies, same, forall, Place, end, assign, assign_link, assign_flag, havoc, assume, branch, loop, leave, break_out, Routine}
 use Rattle.routine_table.specs.Cells.{Table}
 use Rattle.routine_table.specs.Formulas.{formula_of}

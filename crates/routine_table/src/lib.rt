@@ -4,20 +4,14 @@
 ghost use Rattle.std.specs.Prelude.{◌≡◌, ◌+◌, ◌*◌, ◌≤◌, ◌<◌};
 ghost use Rattle.routine_table.specs.Cells.{cell, statement_cell, clause_cell, routine_cell, part_cell};
 
-fn wide(x: u16) -> usize
-    ensures { (result ≡ x) × (result ≤ 65535) }
-{
-    x as usize
-}
-
 // The number at a place; 0 behind the end.
 pub fn cell(table: &[u16], p: usize) -> usize
     ensures { (result ≡ cell table.now p) × (result ≤ 65535) }
 {
-    if p < table.len() {
-        return wide(table[p]);
+    match table.get(p) {
+        Some(number) => usize::from(*number),
+        None => 0,
     }
-    0
 }
 
 // Number k of statement s, of clause i, of routine r, of part i.

@@ -1,17 +1,16 @@
 -- Words, separators and lines, byte by byte: each law says how a definition goes at a place of the text.
-use Prim.Native.Nat.{ℕ, zero, suc, ◌+◌, ◌-◌, ◌≤◌, ◌<◌}
+use Prim.Native.Nat.{ℕ, suc, ◌+◌, ◌-◌, ◌≤◌, ◌<◌}
 use native.Mathlib.Omega.{arith}
 use native.Mathlib.Numerals.{add-one}
 use mathlib.Core.Path.{◌≡◌, refl, sym, ap, ◌∙◌}
-use mathlib.Core.Bool.{Bool, true, false, not, cond, ◌&&◌, ◌||◌}
+use mathlib.Core.Bool.{Bool, true, false, ◌&&◌, ◌||◌}
 use mathlib.Core.List.{List, [], ◌∷◌}
 use lib.ListN.{length, get_or, drop, drop_of_length-le}
 use lib.Dec.{eqb, leb}
 use borrow.Author.Tests.{eq-eqb, ne_eqb}
 use Rattle.logic.specs.Search.{◌and◌, ◌or◌}
-use Rattle.text.specs.Text.{is_digit}
 use Rattle.text.proofs.Writing.{left_first}
-use Rattle.routine_tokens.specs.Tokens.{is_blank, is_word_byte, word_length, opens_comment, separates, in_comment, separators}
+use Rattle.routine_tokens.specs.Tokens.{is_blank, is_letter, is_word_byte, word_length, opens_comment, separates, in_comment, separators}
 use Rattle.routine_tokens.specs.Tokens.{line_behind, column_behind, line_from, column_from, line_of, column_of}
 
 -- the code's tests of bytes
@@ -25,6 +24,19 @@ pub or_test : (a b : Bool) → (a || b) ≡ (a or b)
 unfolding ◌or◌
 or_test true b = refl
 or_test false b = refl
+
+-- the library's letters are the capitals first
+letter_test : (capital small line : Bool) → ((capital || small) || line) ≡ (small or capital or line)
+unfolding ◌or◌
+letter_test true true line = refl
+letter_test true false line = refl
+letter_test false true line = refl
+letter_test false false line = refl
+
+pub letter_ranges : (b : ℕ) → (((leb 65 b && leb b 90) || (leb 97 b && leb b 122)) || eqb b 95) ≡ is_letter b
+unfolding is_letter
+letter_ranges b =
+    letter_test (leb 65 b && leb b 90) (leb 97 b && leb b 122) (eqb b 95) ∙ rw (and_test (leb 97 b) (leb b 122), and_test (leb 65 b) (leb b 90)) refl
 
 module _ (text : List ℕ) (i : ℕ) where
   nothing_left : length text ≤ i → drop i text ≡ []

@@ -4,11 +4,11 @@ use native.Mathlib.Omega.{arith}
 use native.Mathlib.Numerals.{add-one}
 use mathlib.Core.Path.{◌≡◌, refl, sym, ap, ◌∙◌, subst}
 use mathlib.Core.Logic.{⊎_elim}
-use mathlib.Core.Bool.{Bool, true, false, not, cond}
+use mathlib.Core.Bool.{Bool, true, false, not}
 use mathlib.Core.List.{List, [], ◌∷◌}
 use lib.ListN.{length, get_or, take, drop, length-drop, drop_of_length-le}
 use lib.Seq.{drop-drop, take_all, length-take-le}
-use lib.Dec.{eqb, ltb}
+use lib.Dec.{eqb}
 use borrow.Author.Tests.{eq-eqb, ne_eqb, lt-ltb, le-ltb}
 use Rattle.logic.specs.Search.{◌and◌}
 use Rattle.theory.proofs.Basics.Search.{bool_cases, true-false, and_right}
@@ -99,12 +99,6 @@ module _ (whole : Bool) (bytes table : List ℕ) where
     pub row_next : k < count → fits whole bytes (drop (10 * k) table) ≡ false →
         row_of (count - k) whole bytes (drop (10 * k) table) ≡ row_of (count - (k + 1)) whole bytes (drop (10 * (k + 1)) table) + 1
     row_next h e = ap (λ (m : ℕ). row_of m whole bytes (drop (10 * k) table)) (left h) ∙ row_later (count - (k + 1)) k e ∙ sym (add-one _)
-
-    pub row-start : 0 + row_of (count - 0) whole bytes (drop (10 * 0) table) ≡ row_of count whole bytes table
-    row-start = omega (arith, ap (λ (m : ℕ). row_of m whole bytes table) all)
-      where
-        all : count - 0 ≡ count
-        all = omega arith
 
     pub row-end : count ≤ k → row_of (count - k) whole bytes (drop (10 * k) table) ≡ 0
     unfolding row_of

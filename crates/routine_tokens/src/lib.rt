@@ -1,14 +1,15 @@
 // Words and signs of a routine's text, and lines and columns of its places.
 #![tactic(auto)]
 
-ghost use Rattle.std.specs.Prelude.{◌≡◌, false, ◌+◌, ◌*◌, ◌-◌, ◌≤◌, ◌<◌, length, drop};
+ghost use Rattle.std.specs.Prelude.{◌≡◌, false, ◌+◌, ◌*◌, ◌-◌, ◌≤◌, ◌<◌, length, drop, MatchOption};
 ghost use Rattle.text.specs.Text.{is_digit};
 ghost use Rattle.routine_tokens.specs.Tokens.{is_blank, is_letter, is_word_byte, word_length, opens_comment, separates, in_comment, separators};
 ghost use Rattle.routine_tokens.specs.Tokens.{fits, row_of, row_length, digit_kind, word_kind, word_of, sign_of, token_at, token_from};
 ghost use Rattle.routine_tokens.specs.Tokens.{line_behind, column_behind, line_from, line_of, column_of};
 
-// A token: its kind, the place of its first byte and the one behind its last.
-#[derive(Drop)]
+// A token: its kind, the place of its first byte and the one behind its last. The kind is a number: the grammar of 03 is stated over numbers
+// of kinds (`grammar` and `predictions` of routine_text), and the claims of routine_reader speak of these.
+#[derive(Clone, Copy, PartialEq, Eq)]
 pub struct Token {
     pub kind: usize,
     pub start: usize,
@@ -18,19 +19,19 @@ pub struct Token {
 fn is_blank(b: u8) -> bool
     ensures { result ≡ is_blank b }
 {
-    (b == 32) | (b == 9) | (b == 13) | (b == 10)
+    (b == b' ') | (b == b'\t') | (b == b'\r') | (b == b'\n')
 }
 
 fn is_letter(b: u8) -> bool
     ensures { result ≡ is_letter b }
 {
-    ((97 <= b) & (b <= 122)) | ((65 <= b) & (b <= 90)) | (b == 95)
+    b.is_ascii_alphabetic() | (b == b'_')
 }
 
 fn is_digit(b: u8) -> bool
     ensures { result ≡ is_digit b }
 {
-    (48 <= b) & (b <= 57)
+    b.is_ascii_digit()
 }
 
 fn is_word_byte(b: u8) -> bool
@@ -39,19 +40,18 @@ fn is_word_byte(b: u8) -> bool
     is_letter(b) | is_digit(b)
 }
 
-// The place behind the bytes of a word.
+// The place behind the bytes of a word. Places are counted from the text's start, so the functions below take the text and a place, not what
+// is left of the text.
 fn past_word(text: &[u8], at: usize) -> usize
     requires { at ≤ length text.now }
     ensures { (result ≡ at + word_length (drop at text.now)) × (result ≤ length text.now) }
 {
-    let mut i = at;
-    while i < text.len() {
+    for i in at..text.len() {
         if !is_word_byte(text[i]) {
             return i;
         }
-        i += 1;
     }
-    i
+    text.len()
 }
 
 fn opens_comment(text: &[u8], at: usize) -> bool
@@ -91,65 +91,57 @@ fn past_separators(text: &[u8], at: usize) -> usize
     ensures { result ≡ at + separators false (drop at text.now) }
 {
     let mut comment = false;
-    let mut i = at;
-    while i < text.len() {
+    for i in at..text.len() {
         if !separates(text, i, comment) {
             return i;
         }
         comment = in_comment(comment, text[i]);
-        i += 1;
     }
-    i
+    usize::max(at, text.len())
 }
 
 // The row in front is what the bytes begin with, or all of them.
 fn fits(bytes: &[u8], row: &[u8], whole: bool) -> bool
     ensures { result ≡ fits whole bytes.now row.now }
 {
-    let mut i: usize = 0;
-    while i < row.len() {
+    for (i, r) in row.iter().enumerate() {
         if bytes.len() <= i {
-            return row[i] == 32;
+            return *r == 32;
         }
-        if row[i] == 32 {
+        if *r == 32 {
             return !whole;
         }
-        if bytes[i] != row[i] {
+        if bytes[i] != *r {
             return false;
         }
-        i += 1;
     }
     false
 }
 
-// The first of so many rows that fits.
-fn row_of(bytes: &[u8], table: &[u8], count: usize, whole: bool) -> usize
+// The first of so many rows that fits. The rows are ten bytes each, as `word_table` and `sign_table` of specs/ have them.
+fn row_of(bytes: &[u8], table: &[u8], count: usize, whole: bool) -> Option<usize>
     requires { 10 * count ≤ length table.now }
-    ensures { result ≡ row_of count whole bytes.now table.now }
+    ensures { MatchOption result (count ≡ row_of count whole bytes.now table.now) (λ row. (row < count) × (row ≡ row_of count whole bytes.now table.now)) }
 {
-    let mut k: usize = 0;
-    while k < count {
+    for k in 0..count {
         let from = 10 * k;
         if fits(bytes, &table[from..], whole) {
-            return k;
+            return Some(k);
         }
-        k += 1;
     }
-    count
+    None
 }
 
 // The bytes of the row in front.
 fn row_length(row: &[u8]) -> usize
     ensures { result ≡ row_length row.now }
 {
-    let mut i: usize = 0;
-    while i < row.len() {
-        if row[i] == 32 {
+    for (i, r) in row.iter().enumerate() {
+        if *r == 32 {
             return i;
         }
-        i += 1;
     }
-    i
+    row.len()
 }
 
 // A word that a digit begins.
@@ -176,17 +168,16 @@ fn word_kind(word: &[u8]) -> usize
     if is_digit(word[0]) {
         return digit_kind(word);
     }
-    let row = row_of(
+    let Some(row) = row_of(
         word,
         b"links     flags     routine   requires  ensures   var       havoc     assume    assert    cover     \
 if        else      while     invariant return    break     true      false     forall    reaches   by        between   NULL      ",
         23,
         true,
-    );
-    if row < 23 {
-        return 6 + row;
-    }
-    2
+    ) else {
+        return 2;
+    };
+    6 + row
 }
 
 fn word_at(text: &[u8], at: usize) -> Token
@@ -206,19 +197,18 @@ fn sign_in(text: &[u8], at: usize, table: &[u8]) -> Token
     requires { (at < length text.now) × (160 ≤ length table.now) }
     ensures { result ≡ sign_of at (row_of 16 false (drop at text.now) table.now) table.now }
 {
-    let row = row_of(&text[at..], table, 16, false);
-    if row < 16 {
-        let from = 10 * row;
+    let Some(row) = row_of(&text[at..], table, 16, false) else {
         return Token {
-            kind: 29 + row,
+            kind: 1,
             start: at,
-            end: at + row_length(&table[from..]),
+            end: at + 1,
         };
-    }
+    };
+    let from = 10 * row;
     Token {
-        kind: 1,
+        kind: 29 + row,
         start: at,
-        end: at + 1,
+        end: at + row_length(&table[from..]),
     }
 }
 
@@ -276,10 +266,8 @@ pub fn line_from(text: &[u8], from: usize, to: usize, line: usize) -> usize
     ensures { (result ≡ line_from line (to - from) (drop from text.now)) × (result ≤ to + 1) }
 {
     let mut l = line;
-    let mut i = from;
-    while i < to {
+    for i in from..to {
         l = line_behind(l, text[i]);
-        i += 1;
     }
     l
 }
@@ -296,10 +284,8 @@ pub fn column_of(text: &[u8], place: usize) -> usize
     ensures { (result ≡ column_of text.now place) × (result ≤ place + 1) }
 {
     let mut column: usize = 1;
-    let mut i: usize = 0;
-    while i < place {
+    for i in 0..place {
         column = column_behind(column, text[i]);
-        i += 1;
     }
     column
 }

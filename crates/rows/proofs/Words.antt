@@ -6,7 +6,7 @@ use native.Mathlib.Omega.{arith}
 use mathlib.Core.Path.{◌≡◌, refl, sym, ap, ap₂, ◌∙◌, fun_ext}
 use mathlib.Core.Bool.{Bool, true, false, not}
 use lib.Dec.{eqb, ltb}
-use lib.Pow.{pow_pos, shl_exact}
+use lib.Pow.{shl_exact}
 use lib.Bits.{bit_and, bit_or, and_mask}
 use borrow.Author.Tests.{eqb-true, eqb-false, eq-eqb, ne_eqb, lt-ltb, le-ltb}
 use Rattle.logic.specs.Search.{◌and◌, ◌or◌}
@@ -48,9 +48,6 @@ shifted_two n h = shl_exact {a = 2} 2 n 32 (le_up 3) (omega arith) ∙ mul_comm 
   where
     le_up : (k : ℕ) → k ≤ k + 1
     le_up k = omega arith
-
-pub two_shifted_up : (n : ℕ) → n ≤ 16 → 1 ≤ (2 * 2 ^ n) % 2 ^ 32
-two_shifted_up n h = rw (shifted_two n h) (pow_pos (suc n))
 
 pub bit_up_to : (n : ℕ) → n ≤ 16 → (i : ℕ) → bit ((2 * 2 ^ n) % 2 ^ 32 - 1) i ≡ ltb i (n + 1)
 bit_up_to n h i = ap (λ (x : ℕ). bit (x - 1) i) (shifted_two n h) ∙ bit_ones (suc n) i ∙ ap (ltb i) (sym (add-one n))

@@ -1,3 +1,3 @@
 pub mod Bits
 pub mod Square
-pub mod Answers
+pub mod Options

@@ -7,24 +7,19 @@ ghost use Rattle.logic.specs.Search.{◌and◌, ◌or◌, from, find, select};
 ghost use Rattle.logic.specs.Facts.{terms, replace_in};
 ghost use Rattle.rows.specs.Bits.{bit};
 ghost use Rattle.rows.specs.Square.{square, Turned, renamed_row, columns, rows};
-ghost use Rattle.rows.specs.Answers.{found_of};
+ghost use Rattle.rows.specs.Options.{found_of};
 
 // A term by its number.
-#[derive(Clone, Copy)]
+#[derive(Clone, Copy, PartialEq, Eq, PartialOrd, Ord)]
 pub struct Term(pub usize);
 
-// A term that was looked for.
-#[derive(Drop)]
-pub enum Found {
-    At(Term),
-    Nothing,
-}
-
-// A byte as a number.
-pub fn wide(byte: u8) -> usize
-    ensures { (result ≡ byte) × (result < 256) }
-{
-    byte as usize
+// Two terms that are joined: the lower is kept, and stands for the higher.
+#[derive(Clone, Copy)]
+pub struct Pair {
+    pub lo: Term,
+    pub hi: Term,
+    pub ghost lower: { lo.0 < hi.0 },
+    pub ghost few: { hi.0 ≤ 16 },
 }
 
 // Bit b of a row.
@@ -71,20 +66,17 @@ pub fn with(row: u32, t: usize, wanted: bool) -> u32
     requires { t ≤ 16 }
     ensures { (i : ℕ) → bit result i ≡ bit row i or (eqb i t and wanted) }
 {
-    if wanted {
-        return row | only(t);
-    }
-    row
+    if wanted { row | only(t) } else { row }
 }
 
 // The smallest number of a row.
-pub fn first(row: u32) -> Found
+pub fn first(row: u32) -> Option<Term>
     ensures { found_of result ≡ find (bit row) (from 32 0) }
 {
     if row == 0 {
-        return Found::Nothing;
+        return None;
     }
-    Found::At(Term(u32::trailing_zeros(row) as usize))
+    Some(Term(row.trailing_zeros() as usize))
 }
 
 // The row without its smallest number.
@@ -100,18 +92,14 @@ pub fn holds(rows: &[u32; 17], a: Term, b: Term) -> bool
     requires { (a.0 ≤ 16) × (b.0 ≤ 16) }
     ensures { result ≡ square rows.now a.0 b.0 }
 {
-    let at = a.0;
-    has(rows[at], b.0)
+    has(rows[a.0], b.0)
 }
 
 // The same of any numbers: above 16 there are no facts.
 pub fn is_held(rows: &[u32; 17], a: usize, b: usize) -> bool
     ensures { result ≡ square rows.now a b }
 {
-    if 16 < a {
-        return false;
-    }
-    if 16 < b {
+    if 16 < a || 16 < b {
         return false;
     }
     holds(rows, Term(a), Term(b))
@@ -123,11 +111,8 @@ fn column(rows: &[u32; 17], y: usize) -> u32
     ensures { (z : ℕ) → bit result z ≡ square rows.now z y }
 {
     let mut out: u32 = 0;
-    let mut z: usize = 0;
-    while z < 17 {
-        let set = has(rows[z], y);
-        out = with(out, z, set);
-        z += 1;
+    for (z, row) in rows.iter().enumerate() {
+        out = with(out, z, has(*row, y));
     }
     out
 }
@@ -137,55 +122,48 @@ pub fn turned(rows: &[u32; 17]) -> [u32; 17]
     ensures { Turned result rows.now }
 {
     let mut out = [0u32; 17];
-    let mut y: usize = 0;
-    while y < 17 {
+    for y in 0..17 {
         out[y] = column(rows, y);
-        y += 1;
     }
     out
 }
 
-// A row in which hi is replaced by lo.
-fn renamed_row(row: u32, lo: usize, hi: usize) -> u32
-    requires { (lo < hi) × (hi ≤ 16) }
-    ensures { bit result ≡ renamed_row lo hi (bit row) }
+// A row in which the higher is replaced by the lower.
+fn renamed_row(row: u32, pair: Pair) -> u32
+    ensures { bit result ≡ renamed_row pair.lo.0 pair.hi.0 (bit row) }
 {
+    let lo = pair.lo.0;
+    let hi = pair.hi.0;
     let moved = ((row >> hi) & 1) << lo;
     without(row, only(hi)) | moved
 }
 
 // In every row, the lower number stands where the higher did.
-fn merge_columns(rows: &mut [u32], lo: Term, hi: Term)
-    requires { (lo.0 < hi.0) × (hi.0 ≤ 16) × (length rows.old ≡ 17) }
-    ensures { (square rows.new ≡ columns lo.0 hi.0 (square rows.old)) × (length rows.new ≡ 17) }
+fn merge_columns(rows: &mut [u32], pair: Pair)
+    requires { length rows.old ≡ 17 }
+    ensures { (square rows.new ≡ columns pair.lo.0 pair.hi.0 (square rows.old)) × (length rows.new ≡ 17) }
 {
-    let low = lo.0;
-    let high = hi.0;
-    let mut a: usize = 0;
-    while a < 17 {
-        rows[a] = renamed_row(rows[a], low, high);
-        a += 1;
+    for a in 0..17 {
+        rows[a] = renamed_row(rows[a], pair);
     }
 }
 
 // The lower row gets what the higher holds, and the higher is cleared.
-fn merge_rows(cells: &mut [u32], lo: Term, hi: Term)
-    requires { (lo.0 < hi.0) × (hi.0 ≤ 16) × (length cells.old ≡ 17) }
-    ensures { (square cells.new ≡ rows lo.0 hi.0 (square cells.old)) × (length cells.new ≡ 17) }
+fn merge_rows(cells: &mut [u32], pair: Pair)
+    requires { length cells.old ≡ 17 }
+    ensures { (square cells.new ≡ rows pair.lo.0 pair.hi.0 (square cells.old)) × (length cells.new ≡ 17) }
 {
-    let low = lo.0;
-    let high = hi.0;
-    cells[low] = cells[low] | cells[high];
-    cells[high] = 0;
+    cells[pair.lo.0] |= cells[pair.hi.0];
+    cells[pair.hi.0] = 0;
 }
 
-// hi is replaced by lo in a relation.
-pub fn replace_in(rows: &mut [u32], lo: Term, hi: Term)
-    requires { (lo.0 < hi.0) × (hi.0 ≤ 16) × (length rows.old ≡ 17) }
-    ensures { (square rows.new ≡ replace_in lo.0 hi.0 (square rows.old)) × (length rows.new ≡ 17) }
+// The higher is replaced by the lower in a relation.
+pub fn replace_in(rows: &mut [u32], pair: Pair)
+    requires { length rows.old ≡ 17 }
+    ensures { (square rows.new ≡ replace_in pair.lo.0 pair.hi.0 (square rows.old)) × (length rows.new ≡ 17) }
 {
-    merge_columns(rows, lo, hi);
-    merge_rows(rows, lo, hi);
+    merge_columns(rows, pair);
+    merge_rows(rows, pair);
 }
 
 // The row of the successors of t.
@@ -193,13 +171,11 @@ pub fn successor_row(link: &[u32; 17], n: usize, t: Term) -> u32
     requires { (n ≤ 16) × (t.0 ≤ 16) }
     ensures { (i : ℕ) → bit result i ≡ square link.now t.0 i and (ltb 0 i and ltb i (n + 1)) }
 {
-    let at = t.0;
-    let among = term_row(n);
-    link[at] & among
+    link[t.0] & term_row(n)
 }
 
 // The lowest successor of t.
-pub fn successor(link: &[u32; 17], n: usize, t: Term) -> Found
+pub fn successor(link: &[u32; 17], n: usize, t: Term) -> Option<Term>
     requires { (n ≤ 16) × (t.0 ≤ 16) }
     ensures { found_of result ≡ find (square link.now t.0) (terms n) }
 {

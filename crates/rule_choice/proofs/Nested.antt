@@ -17,7 +17,7 @@ use Rattle.theory.proofs.Paths.Ranged.{InRange}
 use Rattle.theory.proofs.Calls.OneLink.{first_of-one}
 use Rattle.rows.specs.Square.{square}
 use Rattle.link_rows.specs.Cube.{cube}
-use Rattle.facts.specs.Path.{graph_of, graph_in, path_as, replaced_by}
+use Rattle.facts.specs.Path.{graph_of, graph_in, path_as}
 use Rattle.facts.proofs.Path.{graph_at}
 use Rattle.rules.specs.Tests.{pair_test, third_test, is_not_cycle}
 use Rattle.rules.specs.Allowed.{allowed}
@@ -144,7 +144,7 @@ unfolding graph_in
 own_tried link reach l r i e f n alive k = ap (λ (g : Graph). tried_at i n alive g k) (rows_are l r (graph_in link reach i) e f)
 
 -- the choice at the path that arrays hold, of a single link or of three
-module _ (n : ℕ) (single : Bool) (rep link reach order : List ℕ) (alive : ℕ → Bool) (e : alive ≡ live n (replaced_by rep)) where
+module _ (n : ℕ) (single : Bool) (rep link reach order : List ℕ) (alive : ℕ → Bool) (e : alive ≡ live n (path_as single rep link reach)) where
   abbrev path : Facts
   path = path_as single rep link reach
 
@@ -155,7 +155,6 @@ module _ (n : ℕ) (single : Bool) (rep link reach order : List ℕ) (alive : �
   in_rows k = first_of_alike _ _ (link_numbers path.links) (λ i m. ap (λ (g : Graph). tried_at i n alive g k) (graph_at single link reach i (in_links n path i m).1))
 
   choose-path : choose n (order_of order) path ≡ first_of (by_links_of alive (graph_in link reach)) order
-  unfolding live replaced_by
   choose-path =
       choose_by n path order
       ∙ ap (λ (a : ℕ → Bool). first_of (by_links_of a path.graph) order) (sym e)

@@ -72,6 +72,10 @@ pub looks_some : (k : ℕ) (r : Rule) → rule_of k ≡ some r → looks_back k 
 unfolding Option-elim
 looks_some k r e = looks_as k (some r) e
 
+pub looks-none : (k : ℕ) → rule_of k ≡ none → looks_back k ≡ false
+unfolding Option-elim
+looks-none k e = looks_as k none e
+
 -- once it was turned round it stays so
 pub turned_kept : (reach before back : List ℕ) (t w : Bool) → (t ≡ true → Turned before reach) → ((w && not t) ≡ true → Turned back reach) →
     ((w && not t) ≡ false → back ≡ before) → (t || w) ≡ true → Turned back reach

@@ -1,9 +1,10 @@
 -- The triple that the code finds as the definitions'.
-use Rattle.std.proofs.Math.Option.{Option, none, some}
-use Rattle.rule_choice.specs.declared.Place.{Place}
-use Rattle.rule_choice.specs.declared.Place.TheVariants as place
+use Rattle.std.specs.Prelude.{Option as CodeOption}
+use Rattle.std.proofs.Math.Option.{Option}
+use Rattle.rows.specs.Options.{option_of}
+use Rattle.rows.specs.declared.Term.{Term}
+use Rattle.rules.specs.declared.Third.{Third}
 use Rattle.logic.specs.Rules.{Triple, triple}
 
-abbrev pub place_of : Place → Option Triple
-place_of (place.At x y z) = some (triple x.0 y.0 z.0)
-place_of place.Nothing = none
+abbrev pub place_of : CodeOption (Term × Term × Third) → Option Triple
+place_of = option_of (λ t. triple t.0.0 t.1.0 t.2.0)

@@ -1,14 +1,13 @@
--- The code's rules and answers as the definitions'.
-use Rattle.std.proofs.Math.Option.{Option, none, some}
-use Rattle.rules.specs.declared.Rule as code
+-- The code's rules and moves as the definitions'.
+use Rattle.std.specs.Prelude.{Option as CodeOption, ◌≤◌}
+use Rattle.std.proofs.Math.Option.{Option}
+use Rattle.rows.specs.Options.{option_of}
+use Rattle.rules.specs.declared.Rule as rules
 use Rattle.rules.specs.declared.Rule.TheVariants as rule
-use Rattle.rules.specs.declared.Numbered.{Numbered}
-use Rattle.rules.specs.declared.Numbered.TheVariants as numbered
-use Rattle.rules.specs.declared.Choice.{Choice}
-use Rattle.rules.specs.declared.Choice.TheVariants as choice
+use Rattle.rules.specs.declared.Move as moves
 use Rattle.logic.specs.Rules.{Rule, REFLEX, TRANS1, TRANS2, FUNC, CYCLE, SCC, TOTAL, SHARE, triple, Move, move}
 
-abbrev pub kind_of : code.Rule → Rule
+abbrev pub kind_of : rules.Rule → Rule
 kind_of rule.Reflex = REFLEX
 kind_of rule.Trans1 = TRANS1
 kind_of rule.Trans2 = TRANS2
@@ -18,10 +17,16 @@ kind_of rule.Scc = SCC
 kind_of rule.Total = TOTAL
 kind_of rule.Share = SHARE
 
-abbrev pub numbered_of : Numbered → Option Rule
-numbered_of (numbered.Is r) = some (kind_of r)
-numbered_of numbered.Nothing = none
+abbrev pub numbered_of : CodeOption rules.Rule → Option Rule
+numbered_of = option_of kind_of
 
-abbrev pub choice_of : Choice → Option Move
-choice_of (choice.Apply i r x y z) = some (move i.0 (kind_of r) (triple x.0 y.0 z.0))
-choice_of choice.Nothing = none
+-- a rule applied by a link at a triple
+abbrev pub move_as : moves.Move → Move
+move_as m = move m.link.0 (kind_of m.rule) (triple m.x.0 m.y.0 m.z.0)
+
+-- the numbers of its triple are at most 16
+abbrev pub TripleInRange : moves.Move → Type 0
+TripleInRange m = (m.x.0 ≤ 16) × (m.y.0 ≤ 16) × (m.z.0 ≤ 16)
+
+abbrev pub choice_of : CodeOption moves.Move → Option Move
+choice_of = option_of move_as

@@ -1,3 +1,4 @@
 pub mod Answers
 pub mod Tests
 pub mod Allowed
+pub mod Views

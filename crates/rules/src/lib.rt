@@ -1,13 +1,13 @@
 // The eight rules, and the rows of the numbers that each asks for.
 #![tactic(auto)]
 
-ghost use Rattle.std.specs.Prelude.{◌≡◌, true, ℕ, ◌≤◌};
+ghost use Rattle.std.specs.Prelude.{◌≡◌, ℕ, ◌≤◌, ◌<◌};
 ghost use Rattle.facts.specs.Path.{graph_of};
 ghost use Rattle.rules.specs.Answers.{kind_of, numbered_of};
 ghost use Rattle.rows.specs.Bits.{bit};
-ghost use Rattle.rows.specs.Square.{Turned};
-ghost use Rattle.rules.specs.Tests.{pair_test, third_test, is_not_cycle, two_way};
-ghost use Rattle.logic.specs.Rules.{rule_of};
+ghost use Rattle.rules.specs.Views.{Suits};
+ghost use Rattle.rules.specs.Tests.{pair_test, third_test, is_not_cycle};
+ghost use Rattle.logic.specs.Rules.{rule_of, rule_number};
 
 use link_rows::Link;
 use rows::Term;
@@ -28,112 +28,120 @@ pub enum Rule {
 #[derive(Clone, Copy)]
 pub struct Third(pub usize);
 
-// A rule that was looked for by its number.
+// A rule to apply, by which link, and its triple.
+#[derive(Clone, Copy)]
+pub struct Move {
+    pub link: Link,
+    pub rule: Rule,
+    pub x: Term,
+    pub y: Term,
+    pub z: Third,
+}
+
+impl Third {
+    // The term, where the third number is one.
+    pub fn term(self) -> Term
+        ensures { result.0 ≡ self.0 }
+    {
+        Term(self.0)
+    }
+}
+
+impl Rule {
+    // The rule that has this number.
+    pub fn numbered(k: u8) -> Option<Rule>
+        ensures { numbered_of result ≡ rule_of k }
+    {
+        match k {
+            1 => Some(Rule::Reflex),
+            2 => Some(Rule::Trans1),
+            3 => Some(Rule::Trans2),
+            4 => Some(Rule::Func),
+            5 => Some(Rule::Cycle),
+            6 => Some(Rule::Scc),
+            7 => Some(Rule::Total),
+            8 => Some(Rule::Share),
+            _ => None,
+        }
+    }
+
+    // The number of the rule.
+    #[tactic(auto, unfolding(logic::specs::Rules::rule_number))]
+    pub fn number(self) -> usize
+        ensures { (result ≡ rule_number (kind_of self)) × (result < 9) }
+    {
+        match self {
+            Rule::Reflex => 1,
+            Rule::Trans1 => 2,
+            Rule::Trans2 => 3,
+            Rule::Func => 4,
+            Rule::Cycle => 5,
+            Rule::Scc => 6,
+            Rule::Total => 7,
+            Rule::Share => 8,
+        }
+    }
+
+    // The rule is not CYCLE.
+    #[tactic(auto, unfolding(crate::specs::Tests::is_not_cycle))]
+    pub fn is_not_cycle(self) -> bool
+        ensures { result ≡ is_not_cycle (kind_of self) }
+    {
+        !matches!(self, Rule::Cycle)
+    }
+}
+
+// What rules read of a path of n terms by one of its links: the row of the terms that are not replaced, the rows of the link and of its
+// reachability, and reachability turned round, which stands there once a rule that reads it so is tried.
 #[derive(Drop)]
-pub enum Numbered {
-    Is(Rule),
-    Nothing,
+pub struct View {
+    pub n: usize,
+    pub alive: u32,
+    pub link: [u32; 17],
+    pub reach: [u32; 17],
+    pub back: [u32; 17],
 }
 
-// The rule to apply, by which link, and its triple.
-#[derive(Drop)]
-pub enum Choice {
-    Apply(Link, Rule, Term, Term, Third),
-    Nothing,
-}
-
-// The third number of a triple that is a term's.
-pub fn third_term(z: Third) -> Term
-    ensures { result.0 ≡ z.0 }
-{
-    Term(z.0)
-}
-
-// The row of the second numbers that a rule asks for beside x. `back` is `reach` turned round, for the rules that read it.
-pub fn pair_row(
-    rule: Rule,
-    alive: u32,
-    link: &[u32; 17],
-    reach: &[u32; 17],
-    back: &[u32; 17],
-    x: Term,
-) -> u32
-    requires { (x.0 ≤ 16) × (two_way (kind_of rule) ≡ true → Turned back.now reach.now) }
-    ensures { (y : ℕ) → y ≤ 16 → bit result y ≡ pair_test (bit alive) (graph_of link.now reach.now) x.0 y (kind_of rule) }
-{
-    let at = x.0;
-    let near = link[at];
-    let far = reach[at];
-    let both = far & back[at];
-    match rule {
-        Rule::Reflex => (rows::without(alive, far) >> at) & 1,
-        Rule::Trans1 => rows::without(near, far),
-        Rule::Trans2 => far,
-        Rule::Func => near,
-        Rule::Cycle => far,
-        Rule::Scc => rows::without(both, rows::only(at)),
-        Rule::Total => far,
-        Rule::Share => rows::without(both, rows::only(at)),
+impl View {
+    // The row of the second numbers that a rule asks for beside x.
+    pub fn pair_row(&self, rule: Rule, x: Term) -> u32
+        requires { (x.0 ≤ 16) × Suits self.now (kind_of rule) }
+        ensures { (y : ℕ) → y ≤ 16 → bit result y ≡ pair_test (bit self.now.alive) (graph_of self.now.link self.now.reach) x.0 y (kind_of rule) }
+    {
+        let at = x.0;
+        let near = self.link[at];
+        let far = self.reach[at];
+        let both = far & self.back[at];
+        match rule {
+            Rule::Reflex => (rows::without(self.alive, far) >> at) & 1,
+            Rule::Trans1 => rows::without(near, far),
+            Rule::Trans2 => far,
+            Rule::Func => near,
+            Rule::Cycle => far,
+            Rule::Scc => rows::without(both, rows::only(at)),
+            Rule::Total => far,
+            Rule::Share => rows::without(both, rows::only(at)),
+        }
     }
-}
 
-// The row of the third numbers that a rule asks for, once its first two are as it asks.
-pub fn third_row(
-    rule: Rule,
-    link: &[u32; 17],
-    reach: &[u32; 17],
-    back: &[u32; 17],
-    x: Term,
-    y: Term,
-) -> u32
-    requires { (x.0 ≤ 16) × (y.0 ≤ 16) × (two_way (kind_of rule) ≡ true → Turned back.now reach.now) }
-    ensures { (z : ℕ) → z ≤ 16 → bit result z ≡ third_test (graph_of link.now reach.now) x.0 y.0 z (kind_of rule) }
-{
-    let first = x.0;
-    let second = y.0;
-    let far = reach[first];
-    let farther = reach[second];
-    match rule {
-        Rule::Reflex => 1,
-        Rule::Trans1 => 1,
-        Rule::Trans2 => rows::without(farther, far),
-        Rule::Func => rows::without(rows::without(far, rows::only(first)), farther),
-        Rule::Cycle => 0,
-        Rule::Scc => rows::without(far, back[first]),
-        Rule::Total => rows::without(rows::without(far, farther), back[second]),
-        Rule::Share => link[first] & link[second],
-    }
-}
-
-// The rule is not CYCLE.
-pub fn is_not_cycle(rule: Rule) -> bool
-    ensures { result ≡ is_not_cycle (kind_of rule) }
-{
-    match rule {
-        Rule::Reflex => true,
-        Rule::Trans1 => true,
-        Rule::Trans2 => true,
-        Rule::Func => true,
-        Rule::Cycle => false,
-        Rule::Scc => true,
-        Rule::Total => true,
-        Rule::Share => true,
-    }
-}
-
-// The rule that has this number.
-pub fn rule_numbered(k: u8) -> Numbered
-    ensures { numbered_of result ≡ rule_of k }
-{
-    match k {
-        1 => Numbered::Is(Rule::Reflex),
-        2 => Numbered::Is(Rule::Trans1),
-        3 => Numbered::Is(Rule::Trans2),
-        4 => Numbered::Is(Rule::Func),
-        5 => Numbered::Is(Rule::Cycle),
-        6 => Numbered::Is(Rule::Scc),
-        7 => Numbered::Is(Rule::Total),
-        8 => Numbered::Is(Rule::Share),
-        _ => Numbered::Nothing,
+    // The row of the third numbers that a rule asks for, once its first two are as it asks.
+    pub fn third_row(&self, rule: Rule, x: Term, y: Term) -> u32
+        requires { (x.0 ≤ 16) × (y.0 ≤ 16) × Suits self.now (kind_of rule) }
+        ensures { (z : ℕ) → z ≤ 16 → bit result z ≡ third_test (graph_of self.now.link self.now.reach) x.0 y.0 z (kind_of rule) }
+    {
+        let first = x.0;
+        let second = y.0;
+        let far = self.reach[first];
+        let farther = self.reach[second];
+        match rule {
+            Rule::Reflex => 1,
+            Rule::Trans1 => 1,
+            Rule::Trans2 => rows::without(farther, far),
+            Rule::Func => rows::without(rows::without(far, rows::only(first)), farther),
+            Rule::Cycle => 0,
+            Rule::Scc => rows::without(far, self.back[first]),
+            Rule::Total => rows::without(rows::without(far, farther), self.back[second]),
+            Rule::Share => self.link[first] & self.link[second],
+        }
     }
 }

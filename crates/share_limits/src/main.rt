@@ -17,18 +17,16 @@ fn wide(x: u32) -> usize {
     x as usize
 }
 
-// The counts of a tally, and the answer of the call that made it.
-fn print_step(rt: &impl Print, tally: Tally, derivation: &[u8]) -> Tally {
-    let step = tally::added(tally, derivation);
-    let next = step.tally;
-    let counts = next.counts;
-    print(rt, step.refused);
-    let mut k: usize = 0;
-    while k < 8 {
-        print(rt, wide(counts[k]));
-        k += 1;
+// A derivation is added: the answer, 0 or the refusal's number, and the counts then.
+fn print_step(rt: &impl Print, tally: &mut Tally, derivation: &[u8]) {
+    let refused = match tally.add(derivation) {
+        Ok(()) => 0,
+        Err(refusal) => refusal.number(),
+    };
+    print(rt, refused);
+    for count in &tally.counts {
+        print(rt, wide(*count));
     }
-    next
 }
 
 fn print_limits(rt: &impl Print) {
@@ -37,28 +35,27 @@ fn print_limits(rt: &impl Print) {
     print(rt, wide(fnv::mark(b"b")));
     print(rt, wide(fnv::mark(b"foobar")));
     // room for two more lines of rule 1, and none of rule 8
-    let full = Tally {
+    let mut tally = Tally {
         counts: [4294967293, 0, 0, 0, 0, 0, 0, 4294967295],
     };
     // 10 1 2 0, 1 1 0 0, 1 2 0 0, 9 2 1 0: a join, two lines of rule 1, a clash
-    let first = print_step(
+    print_step(
         rt,
-        full,
+        &mut tally,
         b"\0\x04\x0a\x01\x02\0\x01\x01\0\0\x01\x02\0\0\x09\x02\x01\0",
     );
     // 1 1 0 0: a count would pass
-    let second = print_step(rt, first, b"\0\x01\x01\x01\0\0");
+    print_step(rt, &mut tally, b"\0\x01\x01\x01\0\0");
     // 2 1 2 0 and 8 1 2 3: the second would pass, so neither is counted
-    let third = print_step(rt, second, b"\0\x02\x02\x01\x02\0\x08\x01\x02\x03");
+    print_step(rt, &mut tally, b"\0\x02\x02\x01\x02\0\x08\x01\x02\x03");
     // 2 1 2 0 alone: the tally goes on
-    print_step(rt, third, b"\0\x01\x02\x01\x02\0");
+    print_step(rt, &mut tally, b"\0\x01\x02\x01\x02\0");
 }
 
 // "rule 1 first, one a line"
-fn print_shares(rt: &impl Print, tally: Tally) {
+fn print_shares(rt: &impl Print, tally: &Tally) {
     let mut text = [0u8; 336];
-    let counts = tally.counts;
-    let made = fractions::put_shares(&mut text, counts);
+    let made = fractions::put_shares(&mut text, tally.counts);
     streams::write_all(rt, &text[..made]);
 }
 
@@ -66,12 +63,11 @@ fn print_shares(rt: &impl Print, tally: Tally) {
 fn print_stream(rt: &impl Print, text: &mut [u8], held: &mut [u8])
     requires { 128 ≤ length text.old }
 {
-    let none = tally::new();
-    let done = share_stream::process(text, held, true, none);
+    let mut tally = Tally::new();
+    let done = share_stream::process(text, held, true, &mut tally);
     let made = done.made;
     streams::write_all(rt, &text[..made]);
-    let tally = done.tally;
-    print_shares(rt, tally);
+    print_shares(rt, &tally);
     streams::write_all(rt, b"--\n");
 }
 

@@ -14,9 +14,10 @@ use Rattle.text.specs.Text.{Writes}
 use Rattle.text.proofs.Writing.{writes_taken, writes_length}
 use Rattle.sharing.specs.Output.{Turn, wanted, turn_of, first_turn, first_length, output_from}
 use Rattle.shares.specs.Taking.{Takes}
+use Rattle.std.specs.Prelude.{Option, Some, None, IfSome}
+use Rattle.share_stream.specs.Turning.{kept_of}
 use Rattle.held_bytes.specs.Waiting.{must_wait}
 use Rattle.held_bytes.proofs.Moves.{order_lent}
-use Rattle.share_stream.specs.Turning.{TakesFirst}
 use Rattle.sharing.specs.Streaming.{still_printed, Processes}
 use Rattle.sharing.proofs.Streams.{goes_two, first_two, turn_prints}
 
@@ -51,17 +52,18 @@ module _ (bytes : List ℕ) (behind : ℕ) (b : behind ≡ min (length bytes) 2)
       sized : w ≡ wanted (take 2 bytes)
       sized = s ∙ ap wanted head_read
 
-      pub takes_first : {order counts before after left : List ℕ} {r : ℕ} {goes : Bool} →
+      pub takes_first : (order counts : List ℕ) {before after left : List ℕ} {r : ℕ} {goes : Bool} →
           Takes (turn_of order counts (take behind bytes) (take (end - behind) (drop behind bytes))) before after r left goes
-          → TakesFirst order counts bytes before after r left goes end
-      unfolding first_turn first_length
-      takes_first {order} {counts} {before} {after} {left} {r} {goes} t =
-          record {
-            takes = subst (λ (x : Turn). Takes x before after r left goes)
-                (ap (λ (h : List ℕ). turn_of order counts h (take (end - behind) (drop behind bytes))) head_read
-                ∙ ap (turn_of order counts (take 2 bytes)) (query_read ∙ ap (λ (n : ℕ). take n (drop 2 bytes)) sized)) t;
-            passes = omega (arith, sized);
-          }
+          → Takes (first_turn order counts bytes) before after r left goes
+      unfolding first_turn
+      takes_first order counts {before} {after} {left} {r} {goes} t =
+          subst (λ (x : Turn). Takes x before after r left goes)
+          (ap (λ (h : List ℕ). turn_of order counts h (take (end - behind) (drop behind bytes))) head_read
+          ∙ ap (turn_of order counts (take 2 bytes)) (query_read ∙ ap (λ (n : ℕ). take n (drop 2 bytes)) sized)) t
+
+      pub passes_first : end ≡ min (length bytes) (first_length bytes)
+      unfolding first_length
+      passes_first = omega (arith, sized)
 
 -- what waiting tells
 pub wait_cut : {n needed : ℕ} {r ended : Bool} → r ≡ must_wait n needed ended → r ≡ true → (ended ≡ false) × (n < needed)
@@ -94,14 +96,11 @@ text-more {words} {part} {r} made text h w =
 pub record Going (counts held : List ℕ) (ended : Bool) (text after : List ℕ) (at : ℕ) : Type 0 where
   pub prints : (more : List ℕ) → (ended ≡ true → more ≡ []) → output_from counts (held ++ more) ≡ text ++ output_from after ((take 8 held ++ drop at held) ++ more)
 
--- what a turn makes of them
-pub record TurnTaken (counts held : List ℕ) (ended : Bool) (text written left : List ℕ) (at made taken r : ℕ) (goes : Bool) : Type 0 where
+-- what a turn makes of them, where a query may follow
+pub record TurnTaken (counts held : List ℕ) (ended : Bool) (text written left : List ℕ) (at made taken r : ℕ) : Type 0 where
   pub at_fits : at + taken ≤ length held
-  pub made_fits : made + r ≤ length text
-  pub long : length written ≡ length text
-  pub grows : goes ≡ true → at < at + taken
-  pub goes_on : goes ≡ true → Going counts held ended (take (made + r) written) left (at + taken)
-  pub ends : goes ≡ false → Processes counts held ended (take (made + r) written) left (take 8 held ++ drop (at + taken) held) false
+  pub grows : at < at + taken
+  pub goes_on : Going counts held ended (take (made + r) written) left (at + taken)
 
 -- where something was made, something was taken
 pub taken-some : {why : Type 0} {ordered at made : ℕ} → (at ≤ ordered → made ≡ 0) → 0 < made → (ordered < at) ⊎ why
@@ -135,10 +134,10 @@ module _ (held : List ℕ) (ordered : ℕ) (o : ordered ≡ min (length held) 8)
         }
 
     -- one turn more, which has come whole: its text stands behind what was made before
-    module _ {order counts part after left : List ℕ} {r taken : ℕ} {ended goes : Bool} (text : List ℕ) (made : ℕ)
+    module _ {order counts part after left : List ℕ} {r : ℕ} {ended goes : Bool} (text : List ℕ) (made : ℕ)
         (g : Going counts held ended (take made text) after at) (w : (ended ≡ true) ⊎ (683 ≤ length held - at))
-        (l : order ≡ take 8 held) (t : TakesFirst order after (take (length held - at) (drop at held)) (take (length text - made) (drop made text))
-        part r left goes taken) (room : made + 128 ≤ length text) where
+        (l : order ≡ take 8 held) (t : Takes (first_turn order after (take (length held - at) (drop at held))) (take (length text - made) (drop made text))
+        part r left goes) (room : made + 128 ≤ length text) where
       bytes : take (length held - at) (drop at held) ≡ drop at held
       bytes = all_behind at held
 
@@ -148,45 +147,56 @@ module _ (held : List ℕ) (ordered : ℕ) (o : ordered ≡ min (length held) 8)
       takes : Takes turn (take (length text - made) (drop made text)) part r left goes
       takes =
           subst (λ (x : Turn). Takes x (take (length text - made) (drop made text)) part r left goes)
-          (ap (λ (x : List ℕ). first_turn x after (take (length held - at) (drop at held))) l ∙ ap (first_turn (take 8 held) after) bytes) t.takes
+          (ap (λ (x : List ℕ). first_turn x after (take (length held - at) (drop at held))) l ∙ ap (first_turn (take 8 held) after) bytes) t
 
-      passes : taken ≡ min (length (drop at held)) (first_length (drop at held))
-      passes = t.passes ∙ ap (λ (x : List ℕ). min (length x) (first_length x)) bytes
-
-      made_few : made + r ≤ length text
-      made_few = omega (arith, takes.short)
+      pub made_fits : made + r ≤ length text
+      made_fits = omega (arith, takes.short)
 
       abbrev written : List ℕ
       written = put_mid made (length text - made) text part
 
-      abbrev rest : List ℕ → List ℕ
-      rest more = (take 8 held ++ drop (at + taken) held) ++ more
+      pub long : length written ≡ length text
+      long = same_len_mid made (length text - made) text part (writes_length takes.wrote)
 
-      turn_more : (more : List ℕ) → (ended ≡ true → more ≡ []) → output_from counts (held ++ more) ≡ take (made + r) written ++ still_printed goes left (rest more)
-      turn_more more none =
+      abbrev rest : ℕ → List ℕ → List ℕ
+      rest taken more = (take 8 held ++ drop (at + taken) held) ++ more
+
+      turn_more : (taken : ℕ) → taken ≡ min (length (drop at held)) (first_length (drop at held)) → (more : List ℕ) → (ended ≡ true → more ≡ []) →
+          output_from counts (held ++ more) ≡ take (made + r) written ++ still_printed goes left (rest taken more)
+      turn_more taken passes more none =
           g.prints more none
           ∙ ap (λ (xs : List ℕ). take made text ++ xs)
           (turn_prints held at (omega arith) a after more (⊎_elim (λ (e : ended ≡ true). inl (none e)) (λ (h : 683 ≤ length held - at). inr h) w) taken passes)
-          ∙ sym (append_assoc (take made text) turn.text (still_printed turn.goes turn.counts (rest more)))
-          ∙ ap (λ (xs : List ℕ). xs ++ still_printed turn.goes turn.counts (rest more)) (sym (text-more made text made_few takes.wrote))
-          ∙ ap (λ (b : Bool). take (made + r) written ++ still_printed b turn.counts (rest more)) (sym takes.going)
-          ∙ ap (λ (c : List ℕ). take (made + r) written ++ still_printed goes c (rest more)) (sym takes.leaves)
+          ∙ sym (append_assoc (take made text) turn.text (still_printed turn.goes turn.counts (rest taken more)))
+          ∙ ap (λ (xs : List ℕ). xs ++ still_printed turn.goes turn.counts (rest taken more)) (sym (text-more made text made_fits takes.wrote))
+          ∙ ap (λ (b : Bool). take (made + r) written ++ still_printed b turn.counts (rest taken more)) (sym takes.going)
+          ∙ ap (λ (c : List ℕ). take (made + r) written ++ still_printed goes c (rest taken more)) (sym takes.leaves)
 
-      pub next_turn : TurnTaken counts held ended text written left at made taken r goes
+      pub turn_ends : goes ≡ false → Processes counts held ended (take (made + r) written) left [] false
       unfolding still_printed
-      next_turn =
+      turn_ends e =
+          let n : ℕ = min (length (drop at held)) (first_length (drop at held)) in
+          record {
+            prints = λ (more : List ℕ) none. turn_more n refl more none ∙ ap (λ (b : Bool). take (made + r) written ++ still_printed b left (rest n more)) e;
+            shrinks = omega arith;
+            advances = λ f. absurd (false≢true f);
+          }
+
+      pub next_turn : (taken : ℕ) → taken ≡ min (length (take (length held - at) (drop at held))) (first_length (take (length held - at) (drop at held))) → goes ≡ true →
+          TurnTaken counts held ended text written left at made taken r
+      unfolding still_printed
+      next_turn taken p e =
+          let passes : taken ≡ min (length (drop at held)) (first_length (drop at held)) = p ∙ ap (λ (x : List ℕ). min (length x) (first_length x)) bytes in
           record {
             at_fits = omega (arith, passes, length-drop at held);
-            made_fits = made_few;
-            long = same_len_mid made (length text - made) text part (writes_length takes.wrote);
-            grows = λ (e : goes ≡ true). omega (arith, passes, first_two (drop at held), goes_two (take 8 held) after (drop at held) (sym takes.going ∙ e));
-            goes_on = λ (e : goes ≡ true). record { prints = λ (more : List ℕ) none. turn_more more none ∙ ap (λ (b : Bool). take (made + r) written ++ still_printed b left (rest more)) e };
-            ends = λ (e : goes ≡ false). record {
-              prints = λ (more : List ℕ) none. turn_more more none ∙ ap (λ (b : Bool). take (made + r) written ++ still_printed b left (rest more)) e;
-              shrinks = omega (arith, length-append (take 8 held) (drop (at + taken) held), length-take 8 held, length-drop (at + taken) held);
-              advances = λ f. absurd (false≢true f);
-            };
+            grows = omega (arith, passes, first_two (drop at held), goes_two (take 8 held) after (drop at held) (sym takes.going ∙ e));
+            goes_on = record { prints = λ (more : List ℕ) none. turn_more taken passes more none ∙ ap (λ (b : Bool). take (made + r) written ++ still_printed b left (rest taken more)) e };
           }
+
+-- the bytes that are kept, before others
+pub kept_front : {n : ℕ} (kept : Option ℕ) (xs ys : List ℕ) → length xs ≡ n → IfSome kept (λ k. k ≤ n) → kept_of (xs ++ ys) kept ≡ kept_of xs kept
+kept_front None xs ys e h = refl
+kept_front (Some k) xs ys e h = take-append-le k xs ys (omega arith)
 
 -- the bytes that are kept
 pub kept_moved : {counts held text left kept bytes : List ℕ} {ended goes : Bool} → kept ≡ bytes → Processes counts held ended text left bytes goes → Processes counts held ended text left kept goes

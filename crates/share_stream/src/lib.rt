@@ -2,115 +2,90 @@
 // the next piece. The program reads, has a piece processed and writes.
 #![tactic(auto)]
 
-ghost use Rattle.std.specs.Prelude.{◌++◌, ◌≤◌, min, length, take, drop};
+ghost use Rattle.std.specs.Prelude.{◌≤◌, min, length, take, is_some, IfSome};
 ghost use Rattle.sharing.specs.Streaming.{Processes};
-ghost use Rattle.share_stream.specs.Turning.{TakesFirst};
+ghost use Rattle.share_stream.specs.Turning.{TakesFirst, left_by, kept_of};
 
+use std::ops::ControlFlow;
 use tally::Tally;
 
-// A turn: the tally after it, how many bytes it takes, the length of its text, and whether a query may follow.
-#[derive(Drop)]
-struct Turn {
-    tally: Tally,
-    taken: usize,
-    length: usize,
-    goes: bool,
-}
-
-// Turns: the tally after them, where the bytes behind them begin, the length of their text, and whether a query may follow.
+// A turn, or turns: the length of their text, and where the bytes behind them begin, if a query may follow.
 #[derive(Drop)]
 struct Turns {
-    tally: Tally,
-    at: usize,
     made: usize,
-    goes: bool,
+    behind: Option<usize>,
 }
 
-// A piece that is processed: the tally after it, how many bytes are kept, the length of the text, and whether a query may follow.
+// A piece that is processed: the length of its text, and how many bytes are kept for the next piece, if a query may follow.
 #[derive(Drop)]
 pub struct Processed {
-    pub tally: Tally,
-    pub kept: usize,
     pub made: usize,
-    pub goes: bool,
+    pub kept: Option<usize>,
 }
 
 // The turn on the bytes that stand first.
-fn first_turn(text: &mut [u8], order: &[u8], bytes: &[u8], tally: Tally) -> Turn
-    ensures { TakesFirst order.now tally.counts bytes.now text.old text.new result.length result.tally.counts result.goes result.taken }
+fn first_turn(text: &mut [u8], order: &[u8], bytes: &[u8], tally: &mut Tally) -> Turns
+    ensures { TakesFirst order.now tally.old.counts bytes.now text.old text.new result.made tally.new.counts result.behind }
 {
     let n = bytes.len();
-    let behind = held_bytes::at_most(n, 2);
+    let behind = n.min(2);
     let wanted = share_lengths::query_length(&bytes[..behind]);
-    let end = held_bytes::at_most(n, behind + wanted);
-    let taken = shares::take_turn(text, order, &bytes[..behind], &bytes[behind..end], tally);
-    let next = taken.tally;
-    Turn {
-        tally: next,
-        taken: end,
-        length: taken.length,
-        goes: taken.goes,
+    let end = n.min(behind + wanted);
+    match shares::take_turn(text, order, &bytes[..behind], &bytes[behind..end], tally) {
+        ControlFlow::Continue(made) => Turns {
+            made,
+            behind: Some(end),
+        },
+        ControlFlow::Break(made) => Turns { made, behind: None },
     }
 }
 
 // Turn by turn behind the order list, as long as the text has room for a line and no turn is cut: a length is two bytes, and a query 681 at most.
-fn take_turns(text: &mut [u8], held: &[u8], ended: bool, tally: Tally) -> Turns
+fn take_turns(text: &mut [u8], held: &[u8], ended: bool, tally: &mut Tally) -> Turns
     requires { 128 ≤ length text.old }
-    ensures held_bound { (min (length held.now) 8 ≤ result.at) × (result.at ≤ length held.now) × (result.made ≤ length text.old) }
-    ensures processes { Processes tally.counts held.now ended (take result.made text.new) result.tally.counts (take 8 held.now ++ drop result.at held.now) result.goes }
+    ensures made_bound { result.made ≤ length text.old }
+    ensures held_bound { IfSome result.behind (λ at. (min (length held.now) 8 ≤ at) × (at ≤ length held.now)) }
+    ensures processes { Processes tally.old.counts held.now ended (take result.made text.new) tally.new.counts (left_by held.now result.behind) (is_some result.behind) }
 {
     let n = held.len();
-    let ordered = held_bytes::at_most(n, 8);
-    let mut counted = tally;
+    let ordered = n.min(8);
     let mut at = ordered;
     let mut made: usize = 0;
     loop {
-        if text.len() - made < 128 {
+        if text.len() - made < 128 || held_bytes::must_wait(n - at, ended) {
             return Turns {
-                tally: counted,
-                at: at,
-                made: made,
-                goes: true,
+                made,
+                behind: Some(at),
             };
         }
-        if held_bytes::must_wait(n - at, ended) {
+        let turn = first_turn(&mut text[made..], &held[..ordered], &held[at..], tally);
+        let Some(taken) = turn.behind else {
             return Turns {
-                tally: counted,
-                at: at,
-                made: made,
-                goes: true,
+                made: made + turn.made,
+                behind: None,
             };
-        }
-        let t = first_turn(&mut text[made..], &held[..ordered], &held[at..], counted);
-        let next = t.tally;
-        counted = next;
-        at += t.taken;
-        made += t.length;
-        if !t.goes {
-            return Turns {
-                tally: counted,
-                at: at,
-                made: made,
-                goes: false,
-            };
-        }
+        };
+        at += taken;
+        made += turn.made;
     }
 }
 
 // A round: the turns on the bytes that are held, the order list first; the bytes that are not taken are left behind it.
-pub fn process(text: &mut [u8], held: &mut [u8], ended: bool, tally: Tally) -> Processed
+pub fn process(text: &mut [u8], held: &mut [u8], ended: bool, tally: &mut Tally) -> Processed
     requires { 128 ≤ length text.old }
-    ensures kept_in_bounds { (result.kept ≤ length held.old) × (result.made ≤ length text.old) }
-    ensures processes { Processes tally.counts held.old ended (take result.made text.new) result.tally.counts (take result.kept held.new) result.goes }
+    ensures made_bound { result.made ≤ length text.old }
+    ensures kept_in_bounds { IfSome result.kept (λ kept. kept ≤ length held.old) }
+    ensures processes { Processes tally.old.counts held.old ended (take result.made text.new) tally.new.counts (kept_of held.new result.kept) (is_some result.kept) }
 {
     let turns = take_turns(text, held, ended, tally);
-    let at = turns.at;
-    let kept = held_bytes::keep(held, at);
-    let next = turns.tally;
+    let Some(at) = turns.behind else {
+        return Processed {
+            made: turns.made,
+            kept: None,
+        };
+    };
     Processed {
-        tally: next,
-        kept: kept,
         made: turns.made,
-        goes: turns.goes,
+        kept: Some(held_bytes::keep(held, at)),
     }
 }

@@ -47,9 +47,8 @@ unfolding hex_word
 word_bytes k e f g h = rw (e, f, g, h)
 
 -- the end of a line, of lines that are equal
-pub finishes_as : {before after counts left : List ℕ} {at r : ℕ} {goes : Bool} {ls ms : List Line} → ls ≡ ms →
-    Finishes before at ls counts after r left goes → Finishes before at ms counts after r left goes
-finishes_as {before} {after} {counts} {left} {at} {r} {goes} e f = subst (λ (ls : List Line). Finishes before at ls counts after r left goes) e f
+pub finishes_as : {before after counts left : List ℕ} {at r : ℕ} {ls ms : List Line} → ls ≡ ms → Finishes before at ls counts after r left → Finishes before at ms counts after r left
+finishes_as {before} {after} {counts} {left} {at} {r} e f = subst (λ (ls : List Line). Finishes before at ls counts after r left) e f
 
 pub count_words : {p q : ℕ} (bytes : List ℕ) → p ≡ get_or bytes 0 0 → q ≡ get_or bytes 1 0 → decimal (256 * p + q) ++ ascii "\n" ≡ decimal (length (lines_in bytes)) ++ ascii "\n"
 count_words {p} {q} bytes e f =
@@ -82,7 +81,7 @@ module _ (order counts query : List ℕ) where
   takes_bad {before} {after} {r} head h e f w =
       subst (λ (t : Turn). Takes t before after r counts false) (sym (turn_bad head h (sym e ∙ f))) (record { wrote = w; short = omega (arith, w.ends); leaves = refl; going = refl })
 
-  pub takes_query : {before after left : List ℕ} {r : ℕ} {b goes : Bool} (head : List ℕ) → 1 ≤ length head → b ≡ is_bad head → b ≡ false →
-      Prints before order query counts after r left goes → Takes (turn_of order counts head query) before after r left goes
-  takes_query {before} {after} {left} {r} {b} {goes} head h e f p =
-      subst (λ (t : Turn). Takes t before after r left goes) (sym (turn_query head h (sym e ∙ f))) (record { wrote = p.wrote; short = p.short; leaves = p.leaves; going = p.going })
+  pub takes_query : {before after left : List ℕ} {r : ℕ} {b : Bool} (head : List ℕ) → 1 ≤ length head → b ≡ is_bad head → b ≡ false →
+      Prints before order query counts after r left → Takes (turn_of order counts head query) before after r left true
+  takes_query {before} {after} {left} {r} head h e f p =
+      subst (λ (t : Turn). Takes t before after r left true) (sym (turn_query head h (sym e ∙ f))) (record { wrote = p.wrote; short = p.short; leaves = p.leaves; going = refl })

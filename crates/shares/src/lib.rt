@@ -7,18 +7,11 @@ ghost use Rattle.logic.specs.Derivation.{lines_in};
 ghost use Rattle.prover.specs.Promise.{meaning};
 ghost use Rattle.text.specs.Text.{Writes};
 ghost use Rattle.sharing.specs.Output.{hex_word, answer_of, written_lines, turn_of};
-ghost use Rattle.shares.specs.Taking.{Finishes, Prints, Takes};
+ghost use Rattle.shares.specs.Taking.{Finishes, Prints, Takes, length_of, may_follow};
 
 use prover::Answer;
+use std::ops::ControlFlow;
 use tally::Tally;
-
-// A turn as it is taken: the tally after it, the length of what is to be printed, and whether a query may follow.
-#[derive(Drop)]
-pub struct Taken {
-    pub tally: Tally,
-    pub length: usize,
-    pub goes: bool,
-}
 
 // The lowest byte of a word.
 fn low_byte(k: u32) -> u8
@@ -38,21 +31,15 @@ fn put_hex_word(buffer: &mut [u8], at: usize, k: u32) -> usize
     text::put_hex_byte(buffer, third, low_byte(k))
 }
 
-// The line count and the newline of a line, and the tally with these lines.
-fn finish(buffer: &mut [u8], at: usize, derivation: &[u8], tally: Tally) -> Taken
+// The line count and the newline of a line; the tally gains these lines. One that is refused stays as it was.
+fn finish(buffer: &mut [u8], at: usize, derivation: &[u8], tally: &mut Tally) -> usize
     requires { at ≤ 1000 }
-    ensures { Finishes buffer.old at (lines_in derivation.now) tally.counts buffer.new result.length result.tally.counts result.goes }
+    ensures { Finishes buffer.old at (lines_in derivation.now) tally.old.counts buffer.new result tally.new.counts }
 {
     let count = 256 * tally::byte_at(derivation, 0) + tally::byte_at(derivation, 1);
     let to = text::put_decimal(buffer, at, count);
-    let end = text::put_byte(buffer, to, b'\n');
-    let step = tally::added(tally, derivation);
-    let next = step.tally;
-    Taken {
-        tally: next,
-        length: end,
-        goes: true,
-    }
+    let _ = tally.add(derivation);
+    text::put_byte(buffer, to, b'\n')
 }
 
 // What stands behind the answer. A satisfiable query has no derivation, and none is asked for.
@@ -62,10 +49,10 @@ fn count_lines(
     order: &[u8],
     query: &[u8],
     answer: Answer,
-    tally: Tally,
-) -> Taken
+    tally: &mut Tally,
+) -> usize
     requires { (at ≤ 1000) × (meaning answer ≡ answer_of order.now query.now) }
-    ensures { Finishes buffer.old at (written_lines order.now query.now) tally.counts buffer.new result.length result.tally.counts result.goes }
+    ensures { Finishes buffer.old at (written_lines order.now query.now) tally.old.counts buffer.new result tally.new.counts }
 {
     if let Answer::Satisfiable = answer {
         return finish(buffer, at, b"\0\0", tally);
@@ -75,9 +62,9 @@ fn count_lines(
     finish(buffer, at, &lines, tally)
 }
 
-// The line of a query, and the tally with its derivation.
-fn put_query(buffer: &mut [u8], order: &[u8], query: &[u8], tally: Tally) -> Taken
-    ensures { Prints buffer.old order.now query.now tally.counts buffer.new result.length result.tally.counts result.goes }
+// The line of a query; the tally gains the lines of its derivation.
+fn put_query(buffer: &mut [u8], order: &[u8], query: &[u8], tally: &mut Tally) -> usize
+    ensures { Prints buffer.old order.now query.now tally.old.counts buffer.new result tally.new.counts }
 {
     let mut report = [0u8; 53];
     let answer = prover::verdict(order, query, &mut report);
@@ -88,24 +75,22 @@ fn put_query(buffer: &mut [u8], order: &[u8], query: &[u8], tally: Tally) -> Tak
     count_lines(buffer, counted, order, query, answer, tally)
 }
 
-// A turn. What it prints is stored as far as there is room; 128 bytes are always enough.
-pub fn take_turn(buffer: &mut [u8], order: &[u8], head: &[u8], query: &[u8], tally: Tally) -> Taken
-    ensures { Takes (turn_of order.now tally.counts head.now query.now) buffer.old buffer.new result.length result.tally.counts result.goes }
+// A turn, which answers the length of what it prints, and goes on where a query may follow. The text is stored as far as there is room; 128
+// bytes are always enough.
+pub fn take_turn(
+    buffer: &mut [u8],
+    order: &[u8],
+    head: &[u8],
+    query: &[u8],
+    tally: &mut Tally,
+) -> ControlFlow<usize, usize>
+    ensures { Takes (turn_of order.now tally.old.counts head.now query.now) buffer.old buffer.new (length_of result) tally.new.counts (may_follow result) }
 {
-    if head.len() < 1 {
-        return Taken {
-            tally: tally,
-            length: 0,
-            goes: false,
-        };
+    if head.is_empty() {
+        return ControlFlow::Break(0);
     }
     if share_lengths::bad_length(head) {
-        let end = text::put_bytes(buffer, 0, b"bad length\n");
-        return Taken {
-            tally: tally,
-            length: end,
-            goes: false,
-        };
+        return ControlFlow::Break(text::put_bytes(buffer, 0, b"bad length\n"));
     }
-    put_query(buffer, order, query, tally)
+    ControlFlow::Continue(put_query(buffer, order, query, tally))
 }

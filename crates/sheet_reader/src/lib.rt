@@ -27,12 +27,10 @@ fn is_rule(r: u8) -> bool
 pub fn rules_only(sheet: &[u8]) -> bool
     ensures { result ≡ rules_only sheet.now }
 {
-    let mut i: usize = 1;
-    while i < sheet.len() {
+    for i in 1..sheet.len() {
         if !is_rule(sheet[i]) {
             return false;
         }
-        i += 1;
     }
     true
 }

@@ -4,18 +4,21 @@ use native.Mathlib.Omega.{arith}
 use mathlib.Core.Path.{◌≡◌, refl, sym, ap, ap₂, ◌∙◌, subst}
 use mathlib.Core.Bool.{Bool, true, false, cond}
 use mathlib.Core.List.{List, [], ◌∷◌}
-use lib.ListN.{take, drop, replicate}
+use lib.ListN.{take, drop}
 use lib.Dec.{eqb}
 use Rattle.logic.specs.Query.{Literal, literals}
-use Rattle.logic.specs.Facts.{Facts, Joined, links_of, and_then, settle, terms, nil_terms, join_nil, join_each, add_reach, reach_each, start_joins, start}
+use Rattle.logic.specs.Facts.{Facts, Joined, unjoined, links_of, and_then, settle, terms, nil_terms, join_nil, join_each, add_reach, reach_each, start_joins, start}
 use Rattle.theory.proofs.Query.Tied.{Accepted}
 use Rattle.theory.proofs.Paths.Start.{start_tied}
 use Rattle.query.specs.declared.Layout.{Layout}
 use Rattle.link_query.specs.Said.{said, Within}
 use Rattle.link_query.proofs.Said.{terms-said}
 use Rattle.link_rows.specs.Cube.{cube}
-use Rattle.facts.specs.Path.{rep_of}
-use Rattle.joins.specs.Pairs.{joined_in, Fits}
+use Rattle.facts.specs.Path.{rep_of, path_of}
+use Rattle.facts.specs.declared.Facts as code
+use Rattle.plain_literals.specs.Taken.{Bounded}
+use Rattle.plain_literals.proofs.Bounded.{settled, linked_bounded}
+use Rattle.joins.specs.Pairs.{Fits}
 use Rattle.joins.proofs.Joins.{none_before, fits_left}
 use Rattle.term_links.proofs.Entries.{linked_in_rows}
 use Rattle.start.proofs.Room.{start_pairs}
@@ -71,13 +74,18 @@ module _ {l : Layout} {bytes : List ℕ} (w : Within l bytes) where
       ap₂ (λ (ps : List (ℕ × ℕ)) (t : Facts). record { pairs = ps; facts = t }) (ap (λ (i : Joined). i.pairs) f) (h ∙ ap (λ (i : Joined). reach_each (said l bytes).reachability i.facts) f)
 
   module _ (acc : Accepted (said l bytes)) where
-    -- the links that rows hold are settled behind no pair
-    pub links_laid : (single : Bool) (rep link : List ℕ) → single ≡ eqb l.links 1 → rep_of rep ≡ (λ t. t) →
-        ((k : ℕ) → cube link k ≡ ((links_of (said l bytes)).graph k).link) →
-        and_then (joined_in single rep link (replicate 51 0) (replicate 17 0) (replicate 17 0) 0) (settle l.terms l.terms) ≡ links
-    unfolding said
-    links_laid single rep link e r f =
-        none_before (replicate 17 0) (replicate 17 0) _ (settle l.terms l.terms) ∙ ap (settle l.terms l.terms) (linked_in_rows (said l bytes) acc single rep link e w.one_or_three r f)
+    -- the links that a path holds, of which no two terms were joined, are settled
+    pub links_laid : (s : code.Facts) → s.single ≡ eqb l.links 1 → rep_of s.rep ≡ (λ t. t) → ((k : ℕ) → cube s.link k ≡ ((links_of (said l bytes)).graph k).link) →
+        ((k a b : ℕ) → cube s.reach k a b ≡ false) → (j : Joined) → j ≡ unjoined (path_of s) → and_then j (settle l.terms l.terms) ≡ links
+    unfolding said path_of
+    links_laid s e r f none j of =
+        ap (λ (i : Joined). and_then i (settle l.terms l.terms)) of
+        ∙ none_before (path_of s) (settle l.terms l.terms)
+        ∙ ap (settle l.terms l.terms) (linked_in_rows (said l bytes) acc s.single s.rep s.link s.reach e w.one_or_three r f none)
+
+    -- and their terms are within the arrays
+    pub links_bounded : (j : Joined) → j ≡ links → Bounded j.facts
+    links_bounded j e = subst (λ (i : Joined). Bounded i.facts) (sym e) (settled l.terms w.terms_within l.terms _ (linked_bounded (said l bytes)))
 
     -- the joins leave the links that there are
     pub joins-links : joins.facts.links ≡ l.links

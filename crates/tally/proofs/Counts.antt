@@ -10,11 +10,10 @@ use mathlib.Core.List.{List, [], ◌∷◌}
 use lib.ListN.{length, get_or, set, drop, replicate, drop_of_length-le}
 use lib.Seq.{drop-cons, drop-drop, get_or-drop, get_or-set_same, get_or-set_other, ext_get_or}
 use lib.Dec.{eqb, leb}
-use borrow.Author.Tests.{le-leb, lt-leb, leb-true, eq-eqb, ne_eqb}
+use borrow.Author.Tests.{le-leb, lt-leb, eq-eqb, ne_eqb}
 use Rattle.logic.specs.Search.{◌and◌, all}
 use Rattle.logic.specs.Facts.{Line, line}
 use Rattle.logic.specs.Derivation.{lines_from, lines_in}
-use Rattle.theory.proofs.Basics.Search.{and_left, and_right}
 use Rattle.theory.proofs.Basics.Compare.{le_cases}
 use Rattle.tally.specs.Counting.{kind_of, rule_lines, raised_from, raised, plus, fits, refusal_of, tallied, no_lines, Below, Adds}
 
@@ -214,15 +213,6 @@ module _ (a b : List ℕ) (k : ℕ) where
   pub fits_not : k < length a → k < length b → 4294967295 < get_or a k 0 + get_or b k 0 → fits (plus (drop k a) (drop k b)) ≡ false
   unfolding ◌and◌
   fits_not h l s = fits_next h l ∙ rw (lt-leb (get_or a k 0 + get_or b k 0) 4294967295 s)
-
-pub fits_at : (cs : List ℕ) (k : ℕ) → fits cs ≡ true → k < length cs → get_or cs k 0 ≤ 4294967295
-unfolding fits all
-fits_at [] k e h = absurd (omega arith)
-fits_at (c ∷ cs) zero e h = leb-true c 4294967295 (and_left _ _ e)
-fits_at (c ∷ cs) (suc k) e h = fits_at cs k (and_right (leb c 4294967295) _ e) (omega arith)
-
-pub sum_fits : (a b : List ℕ) (k : ℕ) → fits (plus a b) ≡ true → k < length a → get_or a k 0 + get_or b k 0 ≤ 4294967295
-sum_fits a b k e h = let f = fits_at (plus a b) k e (omega (arith, plus-length a b)) in omega (arith, plus_at a b k h)
 
 -- the sums before k are made
 pub record Summed (a b next : List ℕ) (k : ℕ) : Type 0 where

@@ -6,7 +6,7 @@ use mathlib.Core.Path.{◌≡◌, refl, sym, ap, ◌∙◌, fun_ext}
 use mathlib.Core.Logic.{◌⊎◌, ⊎_elim}
 use mathlib.Core.Bool.{Bool, true, false, cond}
 use mathlib.Core.List.{List}
-use lib.ListN.{length, replicate}
+use lib.ListN.{length}
 use lib.Dec.{ltb, eqb}
 use borrow.Author.Tests.{lt-ltb, le-ltb, ltb-false, eqb-true, eqb-false, eq-eqb, ne_eqb}
 use Rattle.logic.specs.Search.{◌and◌, ◌or◌}
@@ -23,7 +23,6 @@ use Rattle.link_query.specs.Said.{entry_width, said, Within, entry_in}
 use Rattle.link_query.proofs.Said.{terms-said, entry_said, few_links}
 use Rattle.rows.proofs.Fill.{ltb_next}
 use Rattle.link_rows.specs.Cube.{cube}
-use Rattle.link_rows.proofs.Cube.{nothing_linked}
 use Rattle.facts.specs.Path.{rep_of, graph_in, no_facts, path_as}
 use Rattle.facts.proofs.Path.{linking, alike-graph, by_link}
 use Rattle.term_links.specs.Argument.{argument_by}
@@ -135,18 +134,18 @@ module _ (q : Query) (acc : Accepted q) where
   linked_by k = linking (links k) (λ a b. false)
 
   -- rows that hold these links and no reachability hold the path
-  pub linked_in_rows : (single : Bool) (rep link : List ℕ) → single ≡ eqb q.links 1 → (q.links ≡ 1) ⊎ (q.links ≡ 3) → rep_of rep ≡ (λ t. t) →
-      ((k : ℕ) → cube link k ≡ links k) → path_as single rep link (replicate 51 0) ≡ links_of q
+  pub linked_in_rows : (single : Bool) (rep link reach : List ℕ) → single ≡ eqb q.links 1 → (q.links ≡ 1) ⊎ (q.links ≡ 3) → rep_of rep ≡ (λ t. t) →
+      ((k : ℕ) → cube link k ≡ links k) → ((k a b : ℕ) → cube reach k a b ≡ false) → path_as single rep link reach ≡ links_of q
   unfolding graph_in no_facts links_of
-  linked_in_rows single rep link e o r f = λ i. record { rep = r i; links = counted i; graph = fun_ext (by_link single link (replicate 51 0) linked_by within beyond) i }
+  linked_in_rows single rep link reach e o r f none = λ i. record { rep = r i; links = counted i; graph = fun_ext (by_link single link reach linked_by within beyond) i }
     where
       counted : cond single 1 3 ≡ q.links
       counted = ⊎_elim (λ one. rw (e ∙ eq-eqb q.links 1 one) (sym one)) (λ three. rw (e ∙ ne_eqb q.links 1 (λ z. omega (arith, z, three))) (sym three)) o
 
-      nothing : (k : ℕ) → cube (replicate 51 0) k ≡ (λ a b. false)
-      nothing k = fun_ext (λ a. fun_ext (λ b. nothing_linked 51 k a b))
+      nothing : (k : ℕ) → cube reach k ≡ (λ a b. false)
+      nothing k = fun_ext (λ a. fun_ext (λ b. none k a b))
 
-      within : (k : ℕ) → k ≤ cond single 1 3 → graph_in link (replicate 51 0) k ≡ linked_by k
+      within : (k : ℕ) → k ≤ cond single 1 3 → graph_in link reach k ≡ linked_by k
       within k h = alike-graph (f k) (nothing k)
 
       beyond : (k : ℕ) → cond single 1 3 < k → no_facts ≡ linked_by k

@@ -1,7 +1,7 @@
 // The links that section 1 of a query says.
 #![tactic(auto)]
 
-ghost use Rattle.std.specs.Prelude.{◌≡◌, ℕ};
+ghost use Rattle.std.specs.Prelude.{◌≡◌, ◌<◌, ℕ, MatchOption};
 ghost use Rattle.logic.specs.Facts.{links_of};
 ghost use Rattle.theory.proofs.Query.Tied.{Accepted};
 ghost use Rattle.link_rows.specs.Cube.{cube};
@@ -12,14 +12,17 @@ use link_rows::Link;
 use query::Layout;
 use rows::Term;
 
-// The term that a term is f of, by its byte: none (0) for a variable and for nil.
-fn argument(byte: usize) -> usize
-    ensures { result ≡ argument_by byte }
+// "Term byte 255 now names nil" (02, R-3)
+const NIL: usize = 255;
+
+// The term that a term is f of, by its byte: none for a variable and for nil.
+fn argument(byte: usize) -> Option<Term>
+    ensures { MatchOption result (argument_by byte ≡ 0) (λ a. (0 < a.0) × (a.0 ≡ argument_by byte)) }
 {
-    if byte == 255 {
-        return 0;
+    if byte == 0 || byte == NIL {
+        return None;
     }
-    byte
+    Some(Term(byte))
 }
 
 // f(a) = b by its link for each term b that is f of a term a.
@@ -28,16 +31,11 @@ pub fn links_of(query: &[u8], layout: Layout) -> [u32; 51]
     ensures { (k : ℕ) → cube result k ≡ ((links_of (said layout query.now)).graph k).link }
 {
     let mut link = [0u32; 51];
-    let mut b: usize = 1;
-    while b <= layout.terms {
-        let a = argument(link_query::entry(query, layout.links, Term(b)));
-        if a == 0 {
-            b += 1;
-            continue;
+    for b in 1..layout.terms + 1 {
+        if let Some(a) = argument(link_query::entry(query, layout.links, Term(b))) {
+            let k = link_query::entry_link(query, layout.links, Term(b));
+            link_rows::add(&mut link, Link(k), a, Term(b));
         }
-        let k = link_query::entry_link(query, layout.links, Term(b));
-        link_rows::add(&mut link, Link(k), Term(a), Term(b));
-        b += 1;
     }
     link
 }

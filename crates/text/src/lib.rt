@@ -1,4 +1,5 @@
 // Text written into a lent buffer: a writer stores what has room, and answers the place behind what it wrote.
+// Buffer and place stay two parameters: `Writes` in each clause has both apart, and the place runs on past the buffer's end.
 #![tactic(auto)]
 
 ghost use Rattle.std.specs.Prelude.{◌≡◌, [], ◌∷◌, ◌+◌, ◌≤◌, ◌<◌, length};
@@ -11,7 +12,6 @@ pub fn put_byte(buffer: &mut [u8], at: usize, byte: u8) -> usize
 {
     if at < buffer.len() {
         buffer[at] = byte;
-        return at + 1;
     }
     at + 1
 }
@@ -22,10 +22,8 @@ pub fn put_bytes(buffer: &mut [u8], at: usize, bytes: &[u8]) -> usize
     ensures { Writes buffer.old at bytes.now buffer.new result }
 {
     let mut to = at;
-    let mut i: usize = 0;
-    while i < bytes.len() {
-        to = put_byte(buffer, to, bytes[i]);
-        i += 1;
+    for byte in bytes {
+        to = put_byte(buffer, to, *byte);
     }
     to
 }

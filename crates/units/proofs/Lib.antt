@@ -1,3 +1,4 @@
 pub mod Rounds
+pub mod Rows
 pub mod Places
 pub mod Marks

@@ -2,8 +2,9 @@
 use Prim.Native.Nat.{ℕ, ◌≤◌, ◌<◌}
 use native.Mathlib.Omega.{arith}
 use mathlib.Core.Path.{◌≡◌, refl, sym, ap, ◌∙◌, subst}
-use mathlib.Core.Bool.{Bool, true, false, not, cond}
+use mathlib.Core.Bool.{Bool, true, false, not}
 use mathlib.Core.List.{List}
+use mathlib.Core.Option.{some}
 use lib.ListN.{get_or}
 use lib.Bits.{bit_and, bit_or}
 use lib.Dec.{eqb, ltb}
@@ -12,29 +13,21 @@ use Rattle.logic.specs.Search.{◌and◌, from, find}
 use Rattle.logic.specs.Facts.{Graph, Facts, live}
 use Rattle.logic.specs.Rules.{Rule, FUNC, CYCLE, SCC, TOTAL, SHARE, Triple, triple, move, applies}
 use Rattle.theory.proofs.Basics.Search.{and_left, and_right, and_intro, not_intro, find-some, from-mem, neither}
-use Rattle.theory.proofs.Paths.Applies.{has_link_range, applies_linked}
 use Rattle.rows.specs.Bits.{bit}
 use Rattle.rows.specs.Square.{square, Turned}
-use Rattle.rows.specs.Answers.{found_of}
-use Rattle.link_rows.specs.Cube.{cube}
 use Rattle.link_rows.specs.declared.Link.{Link}
-use Rattle.facts.specs.Path.{graph_of, path_of, HasLink}
-use Rattle.facts.specs.declared.Facts as path
-use Rattle.facts.proofs.Path.{graph_own}
+use Rattle.facts.specs.Path.{graph_of}
 use Rattle.rows.specs.declared.Term.{Term}
-use Rattle.rows.specs.declared.Found.{Found}
-use Rattle.rows.specs.declared.Found.TheVariants as found
 use Rattle.rows.proofs.Bits.{bit-and, bit-or, bit-none}
 use Rattle.rows.proofs.Square.{square_in}
 use Rattle.rules.specs.Tests.{pair_test, third_test, is_not_cycle}
 use Rattle.rules.specs.Allowed.{allowed}
 use Rattle.rules.specs.declared.Rule as code
 use Rattle.rules.specs.declared.Third.{Third}
-use Rattle.rules.specs.declared.Choice.{Choice}
+use Rattle.rules.specs.declared.Move.{Move}
 use Rattle.rules.proofs.Halves.{halves, allowed-any, applies-allowed}
-use Rattle.units.specs.declared.Proposal.{Proposal}
-use Rattle.units.specs.declared.Proposal.TheVariants as proposal
-use Rattle.units.specs.Proposes.{Applies, Proposes, RowsOf, ProposesIn, FoundIn}
+use Rattle.units.specs.Graphs.{RowsOf}
+use Rattle.units.specs.Proposes.{Applies}
 
 -- the row of b alone, which a number above 16 has none of
 pub alone_in : (b w : ℕ) → b < 17 → ((i : ℕ) → bit w i ≡ eqb i b) → (i : ℕ) → bit w i ≡ (ltb b 17 and eqb i b)
@@ -49,53 +42,23 @@ alone_above b h i = bit-none i ∙ sym (rw (le-ltb b 17 h) refl)
 abbrev pub In : ℕ → ℕ → Type 0
 In w a = (a ≤ 16) × (bit w a ≡ true)
 
--- the smallest of a row, where it has one; of what two rows have, it is one of the first
-module _ (f : Found) (t : Term) (is : f ≡ found.At t) where
-  pub lowest_in : (w : ℕ) → found_of f ≡ find (bit w) (from 17 0) → In w t.0
-  lowest_in w e =
-      let h = find-some (bit w) (from 17 0) t.0 (sym e ∙ ap found_of is) in
-      let l = from-mem 17 0 t.0 h.0 in
-      (omega arith, h.1)
+-- the smallest of a row is in it; of what two rows have, it is one of the first
+pub lowest_in : (w t : ℕ) → some t ≡ find (bit w) (from 17 0) → In w t
+lowest_in w t e =
+    let h = find-some (bit w) (from 17 0) t (sym e) in
+    let l = from-mem 17 0 t h.0 in
+    (omega arith, h.1)
 
-  pub lowest_left : (v w : ℕ) → found_of f ≡ find (bit (bit_and v w)) (from 17 0) → In v t.0
-  lowest_left v w e = let h = lowest_in (bit_and v w) e in (h.0, and_left (bit v t.0) (bit w t.0) (sym (bit-and v w t.0) ∙ h.1))
+pub lowest_left : (v w t : ℕ) → some t ≡ find (bit (bit_and v w)) (from 17 0) → In v t
+lowest_left v w t e = let h = lowest_in (bit_and v w) t e in (h.0, and_left (bit v t) (bit w t) (sym (bit-and v w t) ∙ h.1))
 
--- rows whose numbers are all in another: what two rows have, and what is left of such a row
-abbrev pub Among : ℕ → ℕ → Type 0
-Among v w = (i : ℕ) → bit v i ≡ true → bit w i ≡ true
+pub in_left : (v w t : ℕ) → In (bit_and v w) t → In v t
+in_left v w t h = (h.0, and_left (bit v t) (bit w t) (sym (bit-and v w t) ∙ h.1))
 
-pub both_among : (v w : ℕ) → Among (bit_and v w) v
-both_among v w i h = and_left (bit v i) (bit w i) (sym (bit-and v w i) ∙ h)
-
-pub left_among : (v u r w : ℕ) → Among v w → ((i : ℕ) → bit r i ≡ (bit v i and not (bit u i))) → Among r w
-left_among v u r w a e i h = a i (and_left (bit v i) (not (bit u i)) (sym (e i) ∙ h))
-
--- a number that is known to be one of a row; a place that is handed on
-pub found_in : (w : ℕ) (f : Found) (t : Term) → f ≡ found.At t → FoundIn w f → In w t.0
-found_in w f t e h = subst (FoundIn w) e h
-
-pub handed_on : (n : ℕ) (s : Facts) (p q : Choice) → p ≡ q → Proposes n s p → Proposes n s q
-handed_on n s p q e h = subst (Proposes n s) e h
-
-pub handed_in : (n : ℕ) (link reach : List ℕ) (p q : Proposal) → p ≡ q → ProposesIn n link reach p → ProposesIn n link reach q
-handed_in n link reach p q e h = subst (ProposesIn n link reach) e h
-
--- Links of a path: those that are counted, and one by which a rule applies
-pub link_counted : (s : path.Facts) (total k : ℕ) → total ≡ cond s.single 1 3 → 1 ≤ k → k ≤ total → HasLink (path_of s) k
-unfolding path_of
-link_counted s total k e h l = (h, omega (arith, e, l))
-
-pub applies_by : (n : ℕ) (s : Facts) (k : ℕ) (r : Rule) (t : Triple) → applies n s (move k r t) ≡ true → HasLink s k
-applies_by n s k r t h = has_link_range s.links k r t (applies_linked n s (move k r t) h)
-
--- what the rows of a link propose is proposed by that link
-module _ (s : path.Facts) (k : Link) (link reach : List ℕ) (h : HasLink (path_of s) k.0) (l : square link ≡ cube s.link k.0) (m : square reach ≡ cube s.reach k.0) where
-  pub rows_of : RowsOf (path_of s) k link reach
-  unfolding path_of
-  rows_of = (h, sym (graph_own s.single s.link s.reach k.0 h.1 link reach l m))
-
-  pub proposed_by : (n : ℕ) (p : Proposal) (r : code.Rule) (x y : Term) (z : Third) → p ≡ proposal.At r x y z → ProposesIn n link reach p → Applies n (path_of s) k r x y z
-  proposed_by n p r x y z e q = handed_in n link reach p (proposal.At r x y z) e q (path_of s) k rows_of
+-- a move that is made of a rule and a triple
+pub placed : (n : ℕ) (s : Facts) (m : Move) (k : Link) (r : code.Rule) (x y : Term) (z : Third) → m ≡ record { link = k; rule = r; x = x; y = y; z = z } →
+    Applies n s (record { link = k; rule = r; x = x; y = y; z = z }) → Applies n s m
+placed n s m k r x y z e h = subst (Applies n s) (sym e) h
 
 module _ (n : ℕ) (link reach : List ℕ) (s : Facts) (j : Link) (rows : RowsOf s j link reach) where
   -- the rule applies by the link at numbers that are in range

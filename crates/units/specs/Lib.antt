@@ -1,3 +1,4 @@
 pub mod Rounds
+pub mod Graphs
 pub mod Proposes
 pub mod Marks

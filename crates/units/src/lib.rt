@@ -6,103 +6,36 @@ ghost use Rattle.std.specs.Prelude.{◌≡◌, not, List, ℕ, ◌+◌, ◌*◌,
 ghost use Rattle.logic.specs.Search.{◌and◌, ◌or◌, from, find};
 ghost use Rattle.logic.specs.Query.{literals};
 ghost use Rattle.rows.specs.Bits.{bit};
-ghost use Rattle.rows.specs.Square.{square, Turned};
-ghost use Rattle.rows.specs.Answers.{found_of};
-ghost use Rattle.facts.specs.Path.{rep_of, graph_of, path_of};
+ghost use Rattle.rows.specs.Square.{square};
+ghost use Rattle.rows.specs.Options.{found_of};
+ghost use Rattle.facts.specs.Path.{rep_of, path_of, HasLink};
 ghost use Rattle.link_query.specs.Said.{said, Within};
-ghost use Rattle.units.specs.Rounds.{Rounds};
 ghost use Rattle.units.specs.Marks.{Marked, holds_apart, denies, gives, SaidOf, Spread, meet, oppose, barred};
 ghost use Rattle.units.specs.Proposes.{Proposes, ProposesIn, FoundIn};
 
 use facts::Facts;
 use link_rows::Link;
 use query::Layout;
-use rows::{Found, Term};
-use rules::{Choice, Rule, Third};
+use rows::Term;
+use rules::{Move, Rule, Third};
 
-// The links from a term lead back to it after `steps` steps, through the terms `on`; it reaches the terms `off`, which are none of these.
-// All three are 0 where the links do not lead back.
-#[derive(Drop)]
-pub struct Round {
-    pub steps: usize,
-    pub on: u32,
-    pub off: u32,
-}
+mod graph;
 
-// A rule and the triple at which it applies by a link whose rows are read. The search does not know which link that is.
-#[derive(Drop)]
-pub enum Proposal {
-    At(Rule, Term, Term, Third),
-    Nothing,
-}
+pub use graph::{Graph, Round};
 
-// The terms that each term cannot come to reach, and the same turned round.
+// The terms that each term cannot come to reach, the same turned round, and those that it cannot equal.
 #[derive(Drop)]
 struct Barred {
     pub ahead: [u32; 17],
     pub behind: [u32; 17],
+    pub equal: [u32; 17],
 }
 
 // The smallest number of a row, of those up to 16.
-pub fn lowest(row: u32) -> Found
+pub fn lowest(row: u32) -> Option<Term>
     ensures { found_of result ≡ find (bit row) (from 17 0) }
 {
     rows::first(row & rows::up_to(16))
-}
-
-// The row of the other terms that x reaches and that reach it. `back` is `reach` turned round.
-pub fn both_ways(reach: &[u32; 17], back: &[u32; 17], x: usize) -> u32
-    requires { (x ≤ 16) × Turned back.now reach.now }
-    ensures { (y : ℕ) → y ≤ 16 → bit result y ≡ (square reach.now x y and square reach.now y x and not (eqb x y)) }
-{
-    rows::without(reach[x] & back[x], rows::only(x))
-}
-
-// The row of the terms that x reaches and that do not reach it.
-pub fn ahead(reach: &[u32; 17], back: &[u32; 17], x: usize) -> u32
-    requires { (x ≤ 16) × Turned back.now reach.now }
-    ensures { (z : ℕ) → z ≤ 16 → bit result z ≡ (square reach.now x z and not (square reach.now z x)) }
-{
-    rows::without(reach[x], back[x])
-}
-
-// The row of the other terms that x reaches and y does not.
-pub fn missed(reach: &[u32; 17], x: usize, y: usize) -> u32
-    requires { (x ≤ 16) × (y ≤ 16) }
-    ensures { (z : ℕ) → z ≤ 16 → bit result z ≡ (square reach.now x z and not (eqb x z) and not (square reach.now y z)) }
-{
-    rows::without(rows::without(reach[x], rows::only(x)), reach[y])
-}
-
-// The row of the terms that x reaches, where neither y reaches them nor they y.
-fn unordered(reach: &[u32; 17], back: &[u32; 17], x: usize, y: usize) -> u32
-    requires { (x ≤ 16) × (y ≤ 16) × Turned back.now reach.now }
-    ensures { (z : ℕ) → z ≤ 16 → bit result z ≡ (square reach.now x z and not (square reach.now y z) and not (square reach.now z y)) }
-{
-    rows::without(rows::without(reach[x], reach[y]), back[y])
-}
-
-// The round of x.
-pub fn around(link: &[u32; 17], reach: &[u32; 17], n: usize, x: usize) -> Round
-    requires { (n ≤ 16) × (x ≤ 16) }
-    ensures { Rounds n (graph_of link.now reach.now) x result }
-{
-    let first = link_steps::next(link, n, Term(x));
-    let back = link_steps::follow(link, n, first, Term(x), n);
-    let k = back.steps + 1;
-    if n < k {
-        return Round {
-            steps: 0,
-            on: 0,
-            off: 0,
-        };
-    }
-    let on = back.passed | rows::only(x);
-    Round {
-        steps: k,
-        on,
-        off: rows::without(reach[x], on),
-    }
 }
 
 // The row of b alone; a number above 16 is in none.
@@ -121,20 +54,20 @@ fn mark(rows: &mut [u32; 17], a: usize, more: u32)
     ensures { Marked rows.new rows.old a more × (length rows.new ≡ 17) }
 {
     if a < 17 {
-        rows[a] = rows[a] | more;
+        rows[a] |= more;
     }
 }
 
 // What the negated equalities hold apart, both ways, of the terms that stand for theirs.
-fn unequal(query: &[u8], at: usize, count: usize, rep: &[u8; 17]) -> [u32; 17]
+fn unequal(query: &[u8], at: usize, count: usize, s: &Facts) -> [u32; 17]
     requires { at + 3 * count ≤ length query.now }
-    ensures { SaidOf (holds_apart (rep_of rep.now)) (literals (take (3 * count) (drop at query.now))) result }
+    ensures { SaidOf (holds_apart (rep_of s.now.rep)) (literals (take (3 * count) (drop at query.now))) result }
 {
     let mut out = [0u32; 17];
     for i in 0..count {
         if !query::sign(query, at, i) {
-            let a = facts::read_rep(rep, query::left(query, at, i));
-            let b = facts::read_rep(rep, query::right(query, at, i));
+            let a = s.representative(query::left(query, at, i));
+            let b = s.representative(query::right(query, at, i));
             mark(&mut out, a.0, alone(b.0));
             mark(&mut out, b.0, alone(a.0));
         }
@@ -143,19 +76,18 @@ fn unequal(query: &[u8], at: usize, count: usize, rep: &[u8; 17]) -> [u32; 17]
 }
 
 // What the negated reachability literals of link k deny, of the terms that stand for theirs.
-fn denied(query: &[u8], layout: Layout, rep: &[u8; 17], k: Link) -> [u32; 17]
+fn denied(query: &[u8], layout: Layout, s: &Facts, k: Link) -> [u32; 17]
     requires { Within layout query.now }
-    ensures { SaidOf (denies (rep_of rep.now) k.0) (said layout query.now).reachability result }
+    ensures { SaidOf (denies (rep_of s.now.rep) k.0) (said layout query.now).reachability result }
 {
     let links = layout.links;
     let at = layout.reach_at;
-    let count = layout.reach_count;
     let mut out = [0u32; 17];
-    for i in 0..count {
+    for i in 0..layout.reach_count {
         if !link_query::reach_sign(query, links, at, i) {
             if link_query::reach_link(query, links, at, i) == k.0 {
-                let a = facts::read_rep(rep, link_query::reach_left(query, links, at, i));
-                let b = facts::read_rep(rep, link_query::reach_right(query, links, at, i));
+                let a = s.representative(link_query::reach_left(query, links, at, i));
+                let b = s.representative(link_query::reach_right(query, links, at, i));
                 mark(&mut out, a.0, alone(b.0));
             }
         }
@@ -164,14 +96,14 @@ fn denied(query: &[u8], layout: Layout, rep: &[u8; 17], k: Link) -> [u32; 17]
 }
 
 // The fields that the data literals of one sign give each term.
-fn fields(query: &[u8], at: usize, count: usize, rep: &[u8; 17], plain: bool) -> [u32; 17]
+fn fields(query: &[u8], at: usize, count: usize, s: &Facts, plain: bool) -> [u32; 17]
     requires { at + 3 * count ≤ length query.now }
-    ensures { SaidOf (gives (rep_of rep.now) plain) (literals (take (3 * count) (drop at query.now))) result }
+    ensures { SaidOf (gives (rep_of s.now.rep) plain) (literals (take (3 * count) (drop at query.now))) result }
 {
     let mut out = [0u32; 17];
     for i in 0..count {
         if query::sign(query, at, i) == plain {
-            let a = facts::read_rep(rep, query::right(query, at, i));
+            let a = s.representative(query::right(query, at, i));
             mark(&mut out, a.0, alone(query::field(query, at, i)));
         }
     }
@@ -183,9 +115,9 @@ fn having(some: u32, rows: &[u32; 17]) -> u32
     ensures { (b : ℕ) → bit result b ≡ (ltb b 17 and meet (get_or rows.now b 0) some) }
 {
     let mut out: u32 = 0;
-    for b in 0..17 {
-        if rows[b] & some != 0 {
-            out = out | rows::only(b);
+    for (b, row) in rows.iter().enumerate() {
+        if *row & some != 0 {
+            out |= rows::only(b);
         }
     }
     out
@@ -196,10 +128,9 @@ fn opposed(rows: [u32; 17], some: &[u32; 17], other: &[u32; 17]) -> [u32; 17]
     ensures { (a b : ℕ) → square result a b ≡ (square rows a b or oppose some.now other.now a b) }
 {
     let mut out = rows;
-    for a in 0..17 {
-        let own = some[a];
-        if own != 0 {
-            mark(&mut out, a, having(own, other));
+    for (a, own) in some.iter().enumerate() {
+        if *own != 0 {
+            mark(&mut out, a, having(*own, other));
         }
     }
     out
@@ -212,27 +143,9 @@ fn spread(rows: &mut [u32; 17], some: u32, more: u32)
 {
     for a in 0..17 {
         if rows::has(some, a) {
-            rows[a] = rows[a] | more;
+            rows[a] |= more;
         }
     }
-}
-
-// What no term can come to reach: where x is denied to reach d, no term that x reaches can reach one that reaches d.
-fn bars(reach: &[u32; 17], denied: &[u32; 17]) -> Barred
-    ensures { (x y : ℕ) → x ≤ 16 → y ≤ 16 → (square result.ahead x y ≡ barred reach.now denied.now x y) × (square result.behind y x ≡ barred reach.now denied.now x y) }
-{
-    let mut ahead = [0u32; 17];
-    let mut behind = [0u32; 17];
-    for x in 0..17 {
-        let no = denied[x];
-        if no != 0 {
-            let far = reach[x];
-            let off = having(no, reach);
-            spread(&mut ahead, far, off);
-            spread(&mut behind, off, far);
-        }
-    }
-    Barred { ahead, behind }
 }
 
 // One row each of three, together.
@@ -246,246 +159,223 @@ fn merged(a: &[u32; 17], b: &[u32; 17], c: &[u32; 17]) -> [u32; 17]
     out
 }
 
+// What no term can come to reach: where x is denied to reach d, no term that x reaches can reach one that reaches d. Terms that cannot come to
+// reach one another cannot be equal, beside those that are held apart.
+fn bars(reach: &[u32; 17], denied: &[u32; 17], apart: &[u32; 17]) -> Barred
+    ensures reached { (x y : ℕ) → x ≤ 16 → y ≤ 16 → (square result.ahead x y ≡ barred reach.now denied.now x y) × (square result.behind y x ≡ barred reach.now denied.now x y) }
+    ensures merged { (x y : ℕ) → square result.equal x y ≡ (square apart.now x y or square result.ahead x y or square result.behind x y) }
+{
+    let mut ahead = [0u32; 17];
+    let mut behind = [0u32; 17];
+    for (x, no) in denied.iter().enumerate() {
+        if *no != 0 {
+            let far = reach[x];
+            let off = having(*no, reach);
+            spread(&mut ahead, far, off);
+            spread(&mut behind, off, far);
+        }
+    }
+    let equal = merged(apart, &ahead, &behind);
+    Barred {
+        ahead,
+        behind,
+        equal,
+    }
+}
+
 // SHARE, wherever it applies: it has one alternative.
-fn share(link: &[u32; 17], reach: &[u32; 17], back: &[u32; 17]) -> Proposal
-    requires { Turned back.now reach.now }
-    ensures { (n : ℕ) → ProposesIn n link.now reach.now result }
+fn share(graph: &Graph) -> Option<Move>
+    ensures { (n : ℕ) → ProposesIn n graph.now result }
 {
     for x in 0..17 {
-        let near = link[x];
-        if near != 0 {
-            let both = both_ways(reach, back, x);
-            for y in 0..17 {
-                if rows::has(both, y) {
-                    if let Found::At(z) = lowest(near & link[y]) {
-                        return Proposal::At(Rule::Share, Term(x), Term(y), Third(z.0));
-                    }
-                }
+        let near = graph.link[x];
+        if near == 0 {
+            continue;
+        }
+        let both = graph.both_ways(x);
+        for y in 0..17 {
+            if !rows::has(both, y) {
+                continue;
+            }
+            if let Some(z) = lowest(near & graph.link[y]) {
+                return Some(graph.at(Rule::Share, Term(x), Term(y), Third(z.0)));
             }
         }
     }
-    Proposal::Nothing
+    None
 }
 
 // FUNC: x = z or y reaches z.
-fn func(link: &[u32; 17], reach: &[u32; 17], no_equal: &[u32; 17], no_reach: &[u32; 17]) -> Proposal
-    ensures { (n : ℕ) → ProposesIn n link.now reach.now result }
+fn func(graph: &Graph, no: &Barred) -> Option<Move>
+    ensures { (n : ℕ) → ProposesIn n graph.now result }
 {
     for x in 0..17 {
-        if let Found::At(y) = lowest(link[x]) {
-            let at = y.0;
-            let struck = no_equal[x] | no_reach[at];
-            if let Found::At(z) = lowest(missed(reach, x, at) & struck) {
-                return Proposal::At(Rule::Func, Term(x), y, Third(z.0));
-            }
+        let Some(y) = lowest(graph.link[x]) else {
+            continue;
+        };
+        let struck = no.equal[x] | no.ahead[y.0];
+        if let Some(z) = lowest(graph.missed(x, y.0) & struck) {
+            return Some(graph.at(Rule::Func, Term(x), y, Third(z.0)));
         }
     }
-    Proposal::Nothing
+    None
 }
 
 // CYCLE of a term with y, a term off its round: y is one of the round.
-fn cycle_at(off: u32, on: u32, no_equal: &[u32; 17]) -> Found
-    ensures { FoundIn off result }
+fn cycle_at(round: Round, no: &Barred) -> Option<Term>
+    ensures { FoundIn round.off result }
 {
     for y in 0..17 {
-        if rows::has(off, y) {
-            let left = rows::without(on, no_equal[y]);
-            if left == 0 {
-                return Found::At(Term(y));
-            }
-            if left & (left - 1) == 0 {
-                return Found::At(Term(y));
+        if rows::has(round.off, y) {
+            let left = rows::without(round.on, no.equal[y]);
+            if left == 0 || left & (left - 1) == 0 {
+                return Some(Term(y));
             }
         }
     }
-    Found::Nothing
+    None
 }
 
-fn cycle(link: &[u32; 17], reach: &[u32; 17], no_equal: &[u32; 17], n: usize) -> Proposal
+fn cycle(graph: &Graph, no: &Barred, n: usize) -> Option<Move>
     requires { n ≤ 16 }
-    ensures { ProposesIn n link.now reach.now result }
+    ensures { ProposesIn n graph.now result }
 {
     for x in 0..17 {
-        if link[x] != 0 {
-            let round = around(link, reach, n, x);
-            if round.off != 0 {
-                if let Found::At(y) = cycle_at(round.off, round.on, no_equal) {
-                    return Proposal::At(Rule::Cycle, Term(x), y, Third(round.steps));
-                }
-            }
+        if graph.link[x] == 0 {
+            continue;
+        }
+        let Some(round) = graph.around(n, x) else {
+            continue;
+        };
+        let steps = round.steps;
+        if let Some(y) = cycle_at(round, no) {
+            return Some(graph.at(Rule::Cycle, Term(x), y, Third(steps)));
         }
     }
-    Proposal::Nothing
+    None
 }
 
 // SCC: x = y or z reaches x.
-fn scc(reach: &[u32; 17], back: &[u32; 17], no_equal: &[u32; 17], no_back: &[u32; 17]) -> Proposal
-    requires { Turned back.now reach.now }
-    ensures { (n : ℕ) (link : List ℕ) → ProposesIn n link reach.now result }
+fn scc(graph: &Graph, no: &Barred) -> Option<Move>
+    ensures { (n : ℕ) → ProposesIn n graph.now result }
 {
     for x in 0..17 {
-        let out = ahead(reach, back, x);
-        let both = both_ways(reach, back, x);
-        if (out != 0) & (both != 0) {
-            if let Found::At(y) = lowest(both & no_equal[x]) {
-                if let Found::At(z) = lowest(out) {
-                    return Proposal::At(Rule::Scc, Term(x), y, Third(z.0));
-                }
-            }
-            if let Found::At(z) = lowest(out & no_back[x]) {
-                if let Found::At(y) = lowest(both) {
-                    return Proposal::At(Rule::Scc, Term(x), y, Third(z.0));
-                }
-            }
+        let out = graph.ahead(x);
+        let both = graph.both_ways(x);
+        let Some(first) = lowest(both) else {
+            continue;
+        };
+        let Some(way) = lowest(out) else {
+            continue;
+        };
+        if let Some(y) = lowest(both & no.equal[x]) {
+            return Some(graph.at(Rule::Scc, Term(x), y, Third(way.0)));
+        }
+        if let Some(z) = lowest(out & no.behind[x]) {
+            return Some(graph.at(Rule::Scc, Term(x), first, Third(z.0)));
         }
     }
-    Proposal::Nothing
+    None
 }
 
 // The terms that TOTAL would order with each term, where one way is struck. What does not depend on x is found once.
-fn struck(
-    reach: &[u32; 17],
-    back: &[u32; 17],
-    no_reach: &[u32; 17],
-    no_back: &[u32; 17],
-) -> [u32; 17]
-    ensures { (y z : ℕ) → square result y z ≡ ((square no_reach.now y z or square no_back.now y z) and not (square reach.now y z or square back.now y z)) }
+fn struck(graph: &Graph, no: &Barred) -> [u32; 17]
+    ensures { (y z : ℕ) → square result y z ≡ ((square no.now.ahead y z or square no.now.behind y z) and not (square graph.now.reach y z or square graph.now.back y z)) }
 {
     let mut out = [0u32; 17];
     for y in 0..17 {
-        out[y] = rows::without(no_reach[y] | no_back[y], reach[y] | back[y]);
+        out[y] = rows::without(no.ahead[y] | no.behind[y], graph.reach[y] | graph.back[y]);
     }
     out
 }
 
 // TOTAL of x with y, one of the terms of `some`: y reaches z or z reaches y.
-fn total_at(
-    reach: &[u32; 17],
-    back: &[u32; 17],
-    struck: &[u32; 17],
-    some: u32,
-    x: usize,
-) -> Proposal
-    requires { (x ≤ 16) × Turned back.now reach.now }
-    ensures { (n : ℕ) (link : List ℕ) → ProposesIn n link reach.now result }
+fn total_at(graph: &Graph, struck: &[u32; 17], some: u32, x: usize) -> Option<Move>
+    requires { x ≤ 16 }
+    ensures { (n : ℕ) → ProposesIn n graph.now result }
 {
-    let mut left = reach[x] & some;
-    let mut turn: usize = 0;
-    while turn < 17 {
-        let Found::At(y) = lowest(left) else {
-            return Proposal::Nothing;
-        };
-        let at = y.0;
-        if let Found::At(z) = lowest(unordered(reach, back, x, at) & struck[at]) {
-            return Proposal::At(Rule::Total, Term(x), y, Third(z.0));
+    let near = graph.reach[x] & some;
+    for y in 0..17 {
+        if !rows::has(near, y) {
+            continue;
         }
-        left = rows::without(left, rows::only(at));
-        turn += 1;
+        if let Some(z) = lowest(graph.unordered(x, y) & struck[y]) {
+            return Some(graph.at(Rule::Total, Term(x), Term(y), Third(z.0)));
+        }
     }
-    Proposal::Nothing
+    None
 }
 
-fn total(reach: &[u32; 17], back: &[u32; 17], no_reach: &[u32; 17], no_back: &[u32; 17]) -> Proposal
-    requires { Turned back.now reach.now }
-    ensures { (n : ℕ) (link : List ℕ) → ProposesIn n link reach.now result }
+fn total(graph: &Graph, no: &Barred) -> Option<Move>
+    ensures { (n : ℕ) → ProposesIn n graph.now result }
 {
-    let open = struck(reach, back, no_reach, no_back);
+    let open = struck(graph, no);
     let some = having(rows::up_to(16), &open);
+    if some == 0 {
+        return None;
+    }
     for x in 0..17 {
-        if let Proposal::At(rule, a, b, c) = total_at(reach, back, &open, some, x) {
-            return Proposal::At(rule, a, b, c);
+        if let Some(found) = total_at(graph, &open, some, x) {
+            return Some(found);
         }
     }
-    Proposal::Nothing
+    None
 }
 
 // The first place found, of SHARE and then of the rules that branch.
-fn place(
-    link: &[u32; 17],
-    reach: &[u32; 17],
-    no_equal: &[u32; 17],
-    no_reach: &[u32; 17],
-    no_back: &[u32; 17],
-    n: usize,
-) -> Proposal
+fn place(graph: &Graph, no: &Barred, n: usize) -> Option<Move>
     requires { n ≤ 16 }
-    ensures { ProposesIn n link.now reach.now result }
+    ensures { ProposesIn n graph.now result }
 {
-    let back = rows::turned(reach);
-    if let Proposal::At(rule, x, y, z) = share(link, reach, &back) {
-        return Proposal::At(rule, x, y, z);
+    if let Some(found) = share(graph) {
+        return Some(found);
     }
-    if let Proposal::At(rule, x, y, z) = func(link, reach, no_equal, no_reach) {
-        return Proposal::At(rule, x, y, z);
+    if let Some(found) = func(graph, no) {
+        return Some(found);
     }
-    if let Proposal::At(rule, x, y, z) = cycle(link, reach, no_equal, n) {
-        return Proposal::At(rule, x, y, z);
+    if let Some(found) = cycle(graph, no, n) {
+        return Some(found);
     }
-    if let Proposal::At(rule, x, y, z) = scc(reach, &back, no_equal, no_back) {
-        return Proposal::At(rule, x, y, z);
+    if let Some(found) = scc(graph, no) {
+        return Some(found);
     }
-    total(reach, &back, no_reach, no_back)
+    total(graph, no)
 }
 
 // The terms held apart from each term by the equalities and the data literals.
-fn apart(query: &[u8], layout: Layout, rep: &[u8; 17]) -> [u32; 17]
+fn apart(query: &[u8], layout: Layout, s: &Facts) -> [u32; 17]
     requires { Within layout query.now }
 {
-    let differ = unequal(query, layout.equal_at, layout.equal_count, rep);
+    let differ = unequal(query, layout.equal_at, layout.equal_count, s);
     if layout.field_count == 0 {
         return differ;
     }
-    let have = fields(query, layout.field_at, layout.field_count, rep, true);
-    let lack = fields(query, layout.field_at, layout.field_count, rep, false);
+    let have = fields(query, layout.field_at, layout.field_count, s, true);
+    let lack = fields(query, layout.field_at, layout.field_count, s, false);
     let one = opposed(differ, &have, &lack);
     opposed(one, &lack, &have)
 }
 
-// A place by link k, whose rows are lent, where at most one alternative does not clash at once. `differ` has the terms held apart.
-fn unit_at(
-    query: &[u8],
-    layout: Layout,
-    reps: &[u8; 17],
-    differ: &[u32; 17],
-    k: Link,
-    link: &[u32; 17],
-    reach: &[u32; 17],
-) -> Proposal
-    requires { Within layout query.now }
-    ensures { ProposesIn layout.terms link.now reach.now result }
+// A place by one link where at most one alternative does not clash at once. `differ` has the terms held apart.
+fn unit_by(query: &[u8], layout: Layout, s: &Facts, differ: &[u32; 17], k: Link) -> Option<Move>
+    requires { Within layout query.now × HasLink (path_of s.now) k.0 }
+    ensures { Proposes layout.terms (path_of s.now) result }
 {
-    let no = denied(query, layout, reps, k);
-    let off = bars(reach, &no);
-    let no_reach = off.ahead;
-    let no_back = off.behind;
-    let no_equal = merged(differ, &no_reach, &no_back);
-    place(link, reach, &no_equal, &no_reach, &no_back, layout.terms)
+    let graph = Graph::of(s, k);
+    let denied = denied(query, layout, s, k);
+    place(&graph, &bars(&graph.reach, &denied, differ), layout.terms)
 }
 
 // A place at a closed path where at most one alternative does not clash at once, by the first link that has one.
-pub fn unit(query: &[u8], layout: Layout, s: Facts) -> Choice
+pub fn unit(query: &[u8], layout: Layout, s: &Facts) -> Option<Move>
     requires { Within layout query.now }
-    ensures { Proposes layout.terms (path_of s) result }
+    ensures { Proposes layout.terms (path_of s.now) result }
 {
-    let reps = s.rep;
-    let differ = apart(query, layout, &reps);
-    let total = facts::links(s.single);
-    let mut k: usize = 1;
-    while k <= total {
-        let link = link_rows::rows_of(&s.link, Link(k));
-        let reach = link_rows::rows_of(&s.reach, Link(k));
-        if let Proposal::At(rule, x, y, z) = unit_at(
-            query,
-            layout,
-            &reps,
-            &differ,
-            Link(k),
-            &link,
-            &reach,
-        ) {
-            return Choice::Apply(Link(k), rule, x, y, z);
+    let differ = apart(query, layout, s);
+    for k in 1..s.links() + 1 {
+        if let Some(found) = unit_by(query, layout, s, &differ, Link(k)) {
+            return Some(found);
         }
-        k += 1;
     }
-    Choice::Nothing
+    None
 }

@@ -5,31 +5,31 @@
 
 ghost use Rattle.std.specs.Prelude.{◌≡◌, ◌≤◌, ◌<◌, length};
 
-fn wide(x: u8) -> usize
-    ensures { result < 256 }
-{
-    x as usize
+// What is printed of each input of a row.
+#[derive(Clone, Copy)]
+enum Row {
+    Verdicts,
+    FirstLines,
+    LinkVerdicts,
 }
 
 // What is printed of an input of a row.
-fn put_text(text: &mut [u8], row: u8, input: &[u8]) -> usize
+fn put_text(text: &mut [u8], row: Row, input: &[u8]) -> usize
     requires { length text.old ≡ 256006 }
     ensures { result ≤ 256006 }
 {
-    if row == 2 {
-        return printing::put_links_text(text, input);
-    }
-    let n = printing::put_text(text, input);
-    if row == 1 {
-        if text[0] == b'u' {
-            return 6;
+    match row {
+        Row::Verdicts => printing::put_text(text, input),
+        Row::FirstLines => {
+            let n = printing::put_text(text, input);
+            if text[0] == b'u' { 6 } else { n }
         }
+        Row::LinkVerdicts => printing::put_links_text(text, input),
     }
-    n
 }
 
 // An input of this length: whether it was there.
-fn run_input(rt: &(impl Input + Print), room: &mut [u8], row: u8, length: usize) -> bool {
+fn run_input(rt: &(impl Input + Print), room: &mut [u8], row: Row, length: usize) -> bool {
     if room.len() < length {
         return false;
     }
@@ -45,12 +45,12 @@ fn run_input(rt: &(impl Input + Print), room: &mut [u8], row: u8, length: usize)
 }
 
 // One input of a row: whether there was one.
-fn run_one(rt: &(impl Input + Print), row: u8) -> bool {
+fn run_one(rt: &(impl Input + Print), row: Row) -> bool {
     let mut head = [0u8; 2];
     if streams::read_full(rt, &mut head) < 2 {
         return false;
     }
-    let length = wide(head[0]) * 256 + wide(head[1]);
+    let length = usize::from(u16::from_be_bytes(head));
     if length == 65535 {
         return false;
     }
@@ -58,16 +58,17 @@ fn run_one(rt: &(impl Input + Print), row: u8) -> bool {
     run_input(rt, &mut room, row, length)
 }
 
-// A proved loop has to end, so it counts down from a number that no run uses up.
-fn run_row(rt: &(impl Input + Print), row: u8) {
-    let mut turns: u64 = 1000000;
-    while turns > 0 && run_one(rt, row) {
-        turns -= 1;
+// A proved loop has to end, so it takes as many turns at most as no run uses up.
+fn run_row(rt: &(impl Input + Print), row: Row) {
+    for _ in 0..1000000 {
+        if !run_one(rt, row) {
+            return;
+        }
     }
 }
 
 fn main(rt: HostRuntime) {
-    run_row(&rt, 0);
-    run_row(&rt, 1);
-    run_row(&rt, 2);
+    run_row(&rt, Row::Verdicts);
+    run_row(&rt, Row::FirstLines);
+    run_row(&rt, Row::LinkVerdicts);
 }

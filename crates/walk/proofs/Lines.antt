@@ -92,22 +92,22 @@ count_all_large c (l ∷ ls) h k =
 module _ (p : Pairs) where
   -- the pairs from i on
   pub pairs_from : ℕ → List (ℕ × ℕ)
-  pairs_from i = map (pair_at p.kept p.replaced) (from (p.count - i) i)
+  pairs_from i = map (pair_at p.entries) (from (p.count - i) i)
 
   pub pairs_whole : pairs_of p ≡ pairs_from 0
   unfolding pairs_of pairs_from
-  pairs_whole = ap (λ (k : ℕ). map (pair_at p.kept p.replaced) (from k 0)) all
+  pairs_whole = ap (λ (k : ℕ). map (pair_at p.entries) (from k 0)) all
     where
       all : p.count ≡ p.count - 0
       all = omega arith
 
   pub pairs_end : (i : ℕ) → p.count ≤ i → pairs_from i ≡ []
   unfolding pairs_from
-  pairs_end i h = ap (map (pair_at p.kept p.replaced)) (from_end p.count i h)
+  pairs_end i h = ap (map (pair_at p.entries)) (from_end p.count i h)
 
-  pub pairs_next : (i : ℕ) → i < p.count → pairs_from i ≡ pair_at p.kept p.replaced i ∷ pairs_from (i + 1)
+  pub pairs_next : (i : ℕ) → i < p.count → pairs_from i ≡ pair_at p.entries i ∷ pairs_from (i + 1)
   unfolding pairs_from
-  pairs_next i h = ap (map (pair_at p.kept p.replaced)) (from_next p.count i h)
+  pairs_next i h = ap (map (pair_at p.entries)) (from_next p.count i h)
 
   -- after i pairs, the buffer and the count are those from which the others come out as the whole
   pub record PairsLeft (before : List ℕ) (first : ℕ) (i : ℕ) (bytes : List ℕ) (count : ℕ) : Type 0 where
@@ -119,7 +119,7 @@ module _ (p : Pairs) where
     left_begin = record { counts = ap (λ (ps : List (ℕ × ℕ)). count_all first (join_lines ps)) pairs_whole; writes = ap (λ (ps : List (ℕ × ℕ)). put_all before first (join_lines ps)) pairs_whole }
 
     module _ (i : ℕ) (bytes : List ℕ) (count : ℕ) (l : PairsLeft before first i bytes count) where
-      pub left-next : (bytes' : List ℕ) (count' a b : ℕ) → i < p.count → a ≡ get_or p.kept i 0 → b ≡ get_or p.replaced i 0 →
+      pub left-next : (bytes' : List ℕ) (count' a b : ℕ) → i < p.count → a ≡ (pair_at p.entries i).0 → b ≡ (pair_at p.entries i).1 →
           bytes' ≡ put_line bytes count (line 10 a b 0) → count' ≡ counted count → PairsLeft before first (i + 1) bytes' count'
       unfolding join_lines count_all put_all
       left-next bytes' count' a b h ea er em ec =

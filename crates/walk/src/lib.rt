@@ -3,9 +3,9 @@
 
 ghost use Rattle.std.specs.Prelude.{◌≡◌, ◌+◌, ◌*◌, ◌≤◌, ◌<◌, length};
 ghost use Rattle.logic.specs.Facts.{line, join_lines};
-ghost use Rattle.logic.specs.Rules.{rule_number, move_number};
+ghost use Rattle.logic.specs.Rules.{move_number};
 ghost use Rattle.logic.specs.Walk.{look, order_of};
-ghost use Rattle.facts.specs.Path.{path_as};
+ghost use Rattle.facts.specs.Path.{path_of};
 ghost use Rattle.joins.specs.Pairs.{pairs_of};
 ghost use Rattle.link_query.specs.Said.{said, Within};
 ghost use Rattle.rules.specs.Answers.{kind_of};
@@ -13,11 +13,10 @@ ghost use Rattle.walk.specs.Lines.{counted, count_all, put_line, put_all};
 ghost use Rattle.walk.specs.Looks.{look_of};
 
 use clash::Clash;
+use facts::Facts;
 use joins::Pairs;
-use link_rows::Link;
 use query::Layout;
-use rows::Term;
-use rules::{Choice, Rule, Third};
+use rules::Move;
 
 // One line more, up to one above 16,000.
 pub fn counted(count: usize) -> usize
@@ -45,78 +44,53 @@ pub fn put_line(lines: &mut [u8], count: usize, a: usize, b: usize, c: usize, d:
 }
 
 // "A line 10, kept term, replaced term, 0 for each" pair; the count of lines then. Where there is no room only the count moves.
-pub fn put_joins(lines: &mut [u8], first: usize, pairs: Pairs) -> usize
-    requires { (length (pairs_of pairs) ≤ 17) × (first ≤ 16001) }
-    ensures value { result ≡ count_all first (join_lines (pairs_of pairs)) }
-    ensures lines_after { lines.new ≡ put_all lines.old first (join_lines (pairs_of pairs)) }
+pub fn put_joins(lines: &mut [u8], first: usize, pairs: &Pairs) -> usize
+    requires { (length (pairs_of pairs.now) ≤ 17) × (first ≤ 16001) }
+    ensures value { result ≡ count_all first (join_lines (pairs_of pairs.now)) }
+    ensures lines_after { lines.new ≡ put_all lines.old first (join_lines (pairs_of pairs.now)) }
 {
-    let total = pairs.count;
     let mut count = first;
-    let mut i: usize = 0;
-    while i < total {
-        let kept = rows::wide(pairs.kept[i]);
-        let replaced = rows::wide(pairs.replaced[i]);
-        put_line(lines, count, 10, kept, replaced, 0);
+    for i in 0..pairs.count {
+        let (kept, replaced) = pairs.entries[i];
+        put_line(
+            lines,
+            count,
+            10,
+            usize::from(kept),
+            usize::from(replaced),
+            0,
+        );
         count = counted(count);
-        i += 1;
     }
     count
 }
 
 // What is seen at a path: its clash, the rule to apply, or neither.
-#[derive(Drop)]
+#[derive(Clone, Copy)]
 pub enum Seen {
-    Clashing(usize, usize, usize),
-    Applying(Link, Rule, Term, Term, Third),
+    Clashing(Clash),
+    Applying(Move),
     Saturated,
 }
 
-// The number of a rule.
-fn rule_number(rule: Rule) -> usize
-    ensures { (result ≡ rule_number (kind_of rule)) × (result < 9) }
+// The number of a move, as a line has it: that of the rule "gains 16 times (link minus 1)" (02, R-11).
+pub fn number(m: Move) -> usize
+    requires { (0 < m.link.0) × (m.link.0 ≤ 3) }
+    ensures { (result ≡ move_number m.link.0 (kind_of m.rule)) × (result < 256) }
 {
-    match rule {
-        Rule::Reflex => 1,
-        Rule::Trans1 => 2,
-        Rule::Trans2 => 3,
-        Rule::Func => 4,
-        Rule::Cycle => 5,
-        Rule::Scc => 6,
-        Rule::Total => 7,
-        Rule::Share => 8,
-    }
+    16 * (m.link.0 - 1) + m.rule.number()
 }
 
-// The number of a rule by link k, as a line has it: it "gains 16 times (link minus 1)" (02, R-11).
-pub fn number(k: Link, rule: Rule) -> usize
-    requires { (0 < k.0) × (k.0 ≤ 3) }
-    ensures { (result ≡ move_number k.0 (kind_of rule)) × (result < 256) }
-{
-    16 * (k.0 - 1) + rule_number(rule)
-}
-
-// "It is looked for before any rule and ends the path." The arrays of the path are lent: its record is not copied.
-pub fn look<'a>(
-    query: &[u8],
-    layout: Layout,
-    order: &[u8],
-    single: bool,
-    rep: &'a [u8; 17],
-    link: &'a [u32; 51],
-    reach: &'a [u32; 51],
-) -> Seen
+// The clash: "It is looked for before any rule and ends the path." Else the first rule that applies.
+pub fn look(query: &[u8], layout: Layout, order: &[u8], s: &Facts) -> Seen
     requires { Within layout query.now }
-    ensures { look_of result ≡ look (said layout query.now) (order_of order.now) (path_as single rep.now link.now reach.now) }
+    ensures { look_of result ≡ look (said layout query.now) (order_of order.now) (path_of s.now) }
 {
-    let n = layout.terms;
-    if let Clash::At(section, place, partner) = clash::find_clash(
-        query, layout, rep, single, reach,
-    ) {
-        return Seen::Clashing(section, place, partner);
+    if let Some(clash) = clash::find_clash(query, layout, s) {
+        return Seen::Clashing(clash);
     }
-    let Choice::Apply(k, rule, x, y, z) = rule_choice::choose(order, single, rep, link, reach, n)
-    else {
-        return Seen::Saturated;
-    };
-    Seen::Applying(k, rule, x, y, z)
+    match rule_choice::choose(order, s, layout.terms) {
+        Some(m) => Seen::Applying(m),
+        None => Seen::Saturated,
+    }
 }

@@ -31,11 +31,9 @@ pub fn put_report(buffer: &mut [u8], at: usize, report: &[u8], links: usize) -> 
 {
     let size = report_size(report, links);
     let mut to = text::put_hex_byte(buffer, at, report[0]);
-    let mut i: usize = 1;
-    while i < size {
+    for i in 1..size {
         to = text::put_byte(buffer, to, b' ');
         to = text::put_hex_byte(buffer, to, report[i]);
-        i += 1;
     }
     text::put_byte(buffer, to, b'\n')
 }

@@ -7,10 +7,7 @@ use Rattle.between_seek.proofs.+seek_links.Given as goal
 
 abbrev pub invariant-loop-v : goal.invariant-loop-v
 invariant-loop-v l =
-    linked_from (query_in l.base l.between) l.q l.links l.j.0 ≡ first_of (linked_with (query_in l.base l.between) l.q l.links l.j.0) (from (l.end - l.v) l.v)
-
-abbrev pub decreases-loop-v : goal.decreases-loop-v
-decreases-loop-v l = l.end - l.v
+    linked_from (query_in l.base l.between) l.q l.links l.j.0 ≡ first_of (linked_with (query_in l.base l.between) l.q l.links l.j.0) (from (l.v-end - l.v) l.v)
 
 abbrev pub decreases-seek_links : goal.decreases-seek_links
 decreases-seek_links l = l.q.m + 1 - l.j.0

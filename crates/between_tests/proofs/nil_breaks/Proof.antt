@@ -1,6 +1,5 @@
 -- Nil's link first, and then the other nil terms. Assumes nothing.
 use native.Mathlib.Omega.{arith}
-use borrow.Author.Tests.{not-true, not-false}
 use mathlib.Core.Path.{sym, ◌∙◌}
 use Rattle.between_tests.proofs.nil_breaks.Statement.{statement}
 use Rattle.between_tests.proofs.nil_breaks.Tie as tie

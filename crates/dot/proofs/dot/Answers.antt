@@ -6,7 +6,8 @@ use Rattle.dot.proofs.dot.Goals as goal
 
 pub returns-then-not-is_well_formed : goal.returns-then-not-is_well_formed
 returns-then-not-is_well_formed c =
-    answer_unformed c.args.report.now _ (length c.args.text.now) (sym c.is_well_formed.ensures ∙ c.if-not-is_well_formed.true) c.clear.ensures
+    rw c.at.ensures
+    (answer_unformed c.args.report.now _ (length c.args.text.now) (sym c.is_well_formed.ensures ∙ c.if-not-is_well_formed.true) c.clear.ensures)
 
 pub draw-length-requires : goal.draw-length-requires
 draw-length-requires c =
@@ -20,7 +21,8 @@ returns-then-text-length c =
     let formed = sym c.is_well_formed.ensures ∙ c.if-not-is_well_formed.false in
     let long = drawn_length report text _ _ _ c.clear.ensures c.draw-length.ensures in
     let size = drawn_size report text _ _ _ c.clear.ensures c.draw-length.ensures in
-    answer_short report _ (length text) formed (omega arith) (c.clear-then-text-length.ensures ∙ ap (λ (k : ℕ). replicate k 0) long)
+    rw c.at-then-text-length.ensures
+    (answer_short report _ (length text) formed (omega arith) (c.clear-then-text-length.ensures ∙ ap (λ (k : ℕ). replicate k 0) long))
 
 pub returns : goal.returns
 returns c =

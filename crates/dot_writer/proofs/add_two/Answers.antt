@@ -15,15 +15,15 @@ append_bytes-requires c =
 pub append_number-requires-2 : goal.append_number-requires-2
 append_number-requires-2 c =
     let one = appended c.new-w.result (decimal c.args.j) c.append_number.ensures in
-    let two = appended c.append_number.new.w c.args.between.now c.append_bytes.ensures in
+    let two = appended c.append_number.new.self c.args.between.now c.append_bytes.ensures in
     let short = decimal_machine c.args.j (omega arith) in
     omega (arith, one.ends, two.ends)
 
 pub append_bytes-requires-2 : goal.append_bytes-requires-2
 append_bytes-requires-2 c =
     let one = appended c.new-w.result (decimal c.args.j) c.append_number.ensures in
-    let two = appended c.append_number.new.w c.args.between.now c.append_bytes.ensures in
-    let three = appended c.append_bytes.new.w (decimal c.args.k) c.append_number-2.ensures in
+    let two = appended c.append_number.new.self c.args.between.now c.append_bytes.ensures in
+    let three = appended c.append_bytes.new.self (decimal c.args.k) c.append_number-2.ensures in
     let short = decimal_machine c.args.j (omega arith) in
     let short2 = decimal_machine c.args.k (omega arith) in
     omega (arith, one.ends, two.ends, three.ends)
@@ -31,14 +31,14 @@ append_bytes-requires-2 c =
 pub returns : goal.returns
 returns c =
     let one = appended c.new-w.result (decimal c.args.j) c.append_number.ensures in
-    let two = appended c.append_number.new.w c.args.between.now c.append_bytes.ensures in
-    let three = appended c.append_bytes.new.w (decimal c.args.k) c.append_number-2.ensures in
-    let four = appended c.append_number-2.new.w c.args.after.now c.append_bytes-2.ensures in
+    let two = appended c.append_number.new.self c.args.between.now c.append_bytes.ensures in
+    let three = appended c.append_bytes.new.self (decimal c.args.k) c.append_number-2.ensures in
+    let four = appended c.append_number-2.new.self c.args.after.now c.append_bytes-2.ensures in
     let all = writes_then one (writes_then two (writes_then three four)) in
     let held1 = holds_on c.new-w.result (decimal c.args.j) c.append_number.ensures in
-    let held2 = holds_on c.append_number.new.w c.args.between.now c.append_bytes.ensures in
-    let held3 = holds_on c.append_bytes.new.w (decimal c.args.k) c.append_number-2.ensures in
-    let held4 = holds_on c.append_number-2.new.w c.args.after.now c.append_bytes-2.ensures in
+    let held2 = holds_on c.append_number.new.self c.args.between.now c.append_bytes.ensures in
+    let held3 = holds_on c.append_bytes.new.self (decimal c.args.k) c.append_number-2.ensures in
+    let held4 = holds_on c.append_number-2.new.self c.args.after.now c.append_bytes-2.ensures in
     let named = ap (λ (u : MutBor (List ℕ)). u.ghost_name) c.new-w.ensures.0 in
     let begun : c.new-w.result.out.now ≡ c.args.out.now = ap (λ (u : MutBor (List ℕ)). u.now) c.new-w.ensures.0 in
     record { leaves = grind arith; ends = cc }

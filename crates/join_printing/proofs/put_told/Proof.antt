@@ -4,7 +4,6 @@ use native.Mathlib.Omega.{arith}
 use mathlib.Core.Path.{sym}
 use lib.Seq.{length-take-le}
 use Rattle.text.proofs.Writing.{writes_as}
-use Rattle.decimal_lines.proofs.Reading.{not_left, not_taken}
 use Rattle.join_printing.proofs.Texts.{told_joined, told_handed}
 use Rattle.join_printing.proofs.put_told.Statement.{statement}
 use Rattle.join_printing.proofs.put_told.Tie as tie

@@ -1,8 +1,7 @@
-use Rattle.std.proofs.Common.{length, ◌-◌, ◌+◌, ◌≤◌, ◌≡◌}
+-- No more pairs than a sheet can hold; the lines end.
+use Rattle.std.proofs.Common.{◌≤◌}
 use Rattle.ordersheet.proofs.read_sheet.Given as goal
 
-abbrev pub invariant-loop-at : goal.invariant-loop-at
-invariant-loop-at l = (l.line ≤ l.at + 1) × (l.at ≤ length l.text + 1) × (l.count ≤ 28) × (length l.sheet ≡ length l.initial.sheet)
-
-abbrev pub decreases-loop-at : goal.decreases-loop-at
-decreases-loop-at l = length l.text - l.at
+abbrev pub invariant-loop-i : goal.invariant-loop-i
+invariant-loop-i l =
+    (l.count ≤ 28) × (goal.iterator-loop-i).can_next l.i-iterator × (goal.iterator-loop-i).is_finite l.i-iterator

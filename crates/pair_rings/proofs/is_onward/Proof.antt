@@ -1,5 +1,4 @@
 -- A pair to r, and the way from there. Assumes nothing.
-use borrow.Author.Tests.{not-true, not-false}
 use mathlib.Core.Path.{sym, ◌∙◌}
 use Rattle.pair_rings.proofs.Turns.{onward-not, onward_is}
 use Rattle.pair_rings.proofs.is_onward.Statement.{statement}

@@ -1,7 +1,7 @@
 -- Words and a place, one behind the other. Assumes nothing.
 use native.Mathlib.Omega.{arith}
 use borrow.Author.Rules.{rules}
-use Rattle.text.proofs.Writing.{writes_as, writes_then, writes_length}
+use Rattle.text.proofs.Writing.{writes_as, writes_then}
 use Rattle.routine_lines.proofs.Words.{fault_words}
 use Rattle.routine_lines.proofs.put_fault.Statement.{statement}
 use Rattle.routine_lines.proofs.put_fault.Tie as tie

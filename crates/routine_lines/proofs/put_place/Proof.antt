@@ -1,7 +1,7 @@
 -- Assumes nothing.
 use native.Mathlib.Omega.{arith}
 use borrow.Author.Rules.{rules}
-use Rattle.text.proofs.Writing.{writes_as, writes_then, writes_length}
+use Rattle.text.proofs.Writing.{writes_as, writes_then}
 use Rattle.text.proofs.Digits.{decimal_machine}
 use Rattle.routine_lines.proofs.Words.{place_words}
 use Rattle.routine_lines.proofs.put_place.Statement.{statement}

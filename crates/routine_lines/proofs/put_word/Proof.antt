@@ -1,7 +1,7 @@
 -- Assumes nothing.
 use native.Mathlib.Omega.{arith}
 use borrow.Author.Rules.{rules}
-use Rattle.text.proofs.Writing.{writes_as, writes_then, writes_length}
+use Rattle.text.proofs.Writing.{writes_as, writes_length}
 use Rattle.routine_lines.proofs.Words.{word_text, word_name, word_forall, word_limit}
 use Rattle.routine_lines.proofs.put_word.Statement.{statement}
 use Rattle.routine_lines.proofs.put_word.Tie as tie

@@ -1,9 +1,5 @@
 -- Assumes nothing.
-use Prim.Native.Nat.{◌+◌, ◌-◌, ◌≤◌}
 use native.Mathlib.Omega.{arith}
-use borrow.Author.Rules.{rules}
-use mathlib.Core.Path.{◌≡◌, refl, sym, ap, ◌∙◌}
-use lib.ListN.{length, drop}
 use Rattle.routine_tokens.proofs.Bytes.{column_feed, column_more}
 use Rattle.routine_tokens.proofs.column_behind.Statement.{statement}
 use Rattle.routine_tokens.proofs.column_behind.Tie as tie

@@ -1,5 +1,4 @@
 -- Assumes nothing.
-use borrow.Author.Rules.{rules}
 use Rattle.routine_tokens.specs.Tokens.{in_comment}
 use Rattle.routine_tokens.proofs.in_comment.Statement.{statement}
 use Rattle.routine_tokens.proofs.in_comment.Tie as tie

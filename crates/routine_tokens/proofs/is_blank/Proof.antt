@@ -1,8 +1,4 @@
 -- Assumes nothing.
-use mathlib.Core.Path.{◌≡◌, sym, ap, ◌∙◌}
-use mathlib.Core.Bool.{Bool, ◌||◌}
-use lib.Dec.{eqb}
-use Rattle.logic.specs.Search.{◌or◌}
 use Rattle.routine_tokens.specs.Tokens.{is_blank}
 use Rattle.routine_tokens.proofs.Bytes.{or_test}
 use Rattle.routine_tokens.proofs.is_blank.Statement.{statement}

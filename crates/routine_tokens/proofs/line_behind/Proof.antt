@@ -1,9 +1,5 @@
 -- Assumes nothing.
-use Prim.Native.Nat.{◌+◌, ◌-◌, ◌≤◌}
 use native.Mathlib.Omega.{arith}
-use borrow.Author.Rules.{rules}
-use mathlib.Core.Path.{◌≡◌, refl, sym, ap, ◌∙◌}
-use lib.ListN.{length, drop}
 use Rattle.routine_tokens.proofs.Bytes.{line_feed, line_same}
 use Rattle.routine_tokens.proofs.line_behind.Statement.{statement}
 use Rattle.routine_tokens.proofs.line_behind.Tie as tie

@@ -1,9 +1,6 @@
 -- Assumes nothing.
-use Prim.Native.Nat.{◌+◌, ◌-◌, ◌≤◌}
 use native.Mathlib.Omega.{arith}
-use borrow.Author.Rules.{rules}
-use mathlib.Core.Path.{◌≡◌, refl, sym, ap, ◌∙◌}
-use lib.ListN.{length, drop}
+use mathlib.Core.Path.{◌∙◌}
 use Rattle.routine_tokens.proofs.Bytes.{line_start}
 use Rattle.routine_tokens.proofs.line_of.Statement.{statement}
 use Rattle.routine_tokens.proofs.line_of.Tie as tie

@@ -1,10 +1,6 @@
 -- Assumes nothing.
-use Prim.Native.Nat.{◌+◌, ◌-◌, ◌≤◌}
-use native.Mathlib.Omega.{arith}
 use borrow.Author.Rules.{rules}
-use mathlib.Core.Path.{◌≡◌, refl, sym, ap, ◌∙◌}
-use lib.ListN.{length, drop}
-use Rattle.routine_tokens.specs.Tokens.{token_at}
+use mathlib.Core.Path.{◌∙◌}
 use Rattle.routine_tokens.proofs.Rows.{token_from_lem}
 use Rattle.routine_tokens.proofs.next_token.Statement.{statement}
 use Rattle.routine_tokens.proofs.next_token.Tie as tie

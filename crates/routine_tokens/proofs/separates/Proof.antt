@@ -1,10 +1,6 @@
 -- Assumes nothing.
 use borrow.Author.Rules.{rules}
-use mathlib.Core.Path.{◌∙◌, ap, sym}
-use mathlib.Core.List.{List}
-use Prim.Native.Nat.{ℕ}
-use lib.ListN.{drop}
-use Rattle.routine_tokens.specs.Tokens.{separates}
+use mathlib.Core.Path.{◌∙◌}
 use Rattle.routine_tokens.proofs.Bytes.{or_test, separates_within, separates_outside}
 use Rattle.routine_tokens.proofs.separates.Statement.{statement}
 use Rattle.routine_tokens.proofs.separates.Tie as tie

@@ -1,10 +1,7 @@
 -- Assumes nothing.
-use Prim.Native.Nat.{◌+◌, ◌-◌, ◌≤◌}
 use native.Mathlib.Omega.{arith}
 use borrow.Author.Rules.{rules}
-use mathlib.Core.Path.{◌≡◌, refl, sym, ap, ◌∙◌}
-use lib.ListN.{length, drop}
-use borrow.Author.Tests.{not-true, not-false}
+use mathlib.Core.Path.{sym, ◌∙◌}
 use Rattle.routine_tokens.proofs.Bytes.{word_here}
 use Rattle.routine_tokens.proofs.Rows.{token_end, token_is_word, token_is_sign}
 use Rattle.routine_tokens.proofs.token_at.Statement.{statement}

@@ -1,9 +1,6 @@
 -- Assumes nothing.
-use Prim.Native.Nat.{◌+◌, ◌-◌, ◌≤◌}
 use native.Mathlib.Omega.{arith}
 use borrow.Author.Rules.{rules}
-use mathlib.Core.Path.{◌≡◌, refl, sym, ap, ◌∙◌}
-use lib.ListN.{length, drop}
 use Rattle.routine_tokens.proofs.Rows.{token_word, part_holds}
 use Rattle.routine_tokens.proofs.word_at.Statement.{statement}
 use Rattle.routine_tokens.proofs.word_at.Tie as tie

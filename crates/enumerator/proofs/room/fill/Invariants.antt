@@ -1,9 +1,0 @@
--- Safe, and ends: the measure is the count of places left.
-use Rattle.std.proofs.Common.{◌-◌, ◌≤◌}
-use Rattle.enumerator.proofs.room.fill.Given as goal
-
-abbrev pub invariant-loop-i : goal.invariant-loop-i
-invariant-loop-i l = l.i ≤ l.count
-
-abbrev pub decreases-loop-i : goal.decreases-loop-i
-decreases-loop-i l = l.count - l.i

@@ -1,0 +1,10 @@
+-- What is best stays a proposal.
+use Rattle.std.proofs.Common.{ℕ}
+use Rattle.gains.specs.Keeps.{Keeps}
+use Rattle.gains.proofs.func.Given as goal
+
+abbrev pub invariant-loop-z : goal.invariant-loop-z
+invariant-loop-z l = (n : ℕ) → Keeps n l.graph l.fn.best l.best
+
+abbrev pub invariant-loop-x : goal.invariant-loop-x
+invariant-loop-x l = (n : ℕ) → Keeps n l.graph l.fn.best l.best

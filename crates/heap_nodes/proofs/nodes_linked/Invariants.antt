@@ -1,0 +1,9 @@
+-- The numbers below t have their bytes. Assumes nothing.
+use Rattle.std.proofs.Common.{◌≡◌, ℕ, ◌≤◌, ◌<◌, length, get_or}
+use Rattle.completion.specs.Links.{link_of}
+use Rattle.heap_nodes.specs.Nodes.{node_of}
+use Rattle.heap_nodes.proofs.nodes_linked.Given as goal
+
+abbrev pub invariant-loop-t : goal.invariant-loop-t
+invariant-loop-t l =
+    (length l.bytes ≡ 17) × ((x : ℕ) → 0 ≤ x → x < l.t → get_or l.bytes x 0 ≡ node_of l.nodes (link_of l.links x))

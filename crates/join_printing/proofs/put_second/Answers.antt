@@ -1,0 +1,13 @@
+-- The parts among the bytes that are read.
+use Rattle.std.proofs.Common.{◌-◌, drop, arith}
+use Rattle.text.proofs.Writing.{writes_as}
+use Rattle.hex_lines.proofs.Hex.{taken_few}
+use Rattle.join_printing.proofs.Texts.{second_read}
+use Rattle.join_printing.proofs.put_second.Goals as goal
+
+pub put_told-requires : goal.put_told-requires
+put_told-requires c = (c.requires, omega (arith, taken_few (c.min-to.result - c.min-from.result) (drop c.min-from.result c.args.input.now)))
+
+pub returns : goal.returns
+returns c =
+    writes_as (second_read _ _ _ c.byte_at.ensures.0 c.byte_at-2.ensures.0 c.min-from.ensures c.min-to.ensures _) c.put_told.ensures

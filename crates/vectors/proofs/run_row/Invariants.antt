@@ -1,4 +1,0 @@
-use Rattle.vectors.proofs.run_row.Given as goal
-
-abbrev pub decreases-loop-turns : goal.decreases-loop-turns
-decreases-loop-turns g l = l.turns
