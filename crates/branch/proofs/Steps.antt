@@ -2,6 +2,7 @@
 use Prim.Native.Nat.{ℕ, ◌≤◌}
 use native.Mathlib.Omega.{arith}
 use mathlib.Core.Path.{◌≡◌, sym, ap, ◌∙◌}
+use mathlib.Core.List.{List, []}
 use Rattle.logic.specs.Facts.{Facts, Joined, unjoined, and_then, join, add_reach}
 use Rattle.logic.specs.Rules.{Fact, equal, reaches, branch}
 use Rattle.joins.specs.Pairs.{Fits}
@@ -13,6 +14,11 @@ pub branch_fits : (n : ℕ) (s : Facts) (c : Fact) → n ≤ 16 → Fits (branch
 unfolding branch unjoined
 branch_fits n s (equal a b) h = omega (arith, join-pairs n a b s)
 branch_fits n s (reaches i a b) h = omega arith
+
+-- a path behind no pairs
+pub emptied : (ps : List (ℕ × ℕ)) (s : Facts) → ps ≡ [] → record { pairs = ps; facts = s } ≡ unjoined s
+unfolding unjoined
+emptied ps s e = ap (λ (p : List (ℕ × ℕ)). record { pairs = p; facts = s }) e
 
 -- a single join, behind none
 module _ (n a b : ℕ) (s : Facts) (j : Joined) (alone : j ≡ unjoined s) where

@@ -35,10 +35,13 @@ pub fn is_held_negated(query: &[u8], links: usize, at: usize, i: usize, s: &Fact
     requires { at + reach_width links * i + reach_width links ≤ length query.now }
     ensures { result ≡ (not (reach_in links query.now at i).plain and reach_held (path_of s.now) (reach_in links query.now at i)) }
 {
+    if link_query::reach_sign(query, links, at, i) {
+        return false;
+    }
     let k = link_query::reach_link(query, links, at, i);
     let a = s.representative(link_query::reach_left(query, links, at, i));
     let b = s.representative(link_query::reach_right(query, links, at, i));
-    !link_query::reach_sign(query, links, at, i) && reaches(s, k, a, b)
+    reaches(s, k, a, b)
 }
 
 // Data literal j is plain, and says this field of a term with this representative.

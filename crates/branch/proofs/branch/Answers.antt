@@ -1,42 +1,21 @@
--- The branch is the alternative, joined or added.
+-- A branch of a copy, made in place.
 use Rattle.std.proofs.Common.{sym, ap, ◌∙◌, subst}
-use Rattle.logic.specs.Facts.{Facts, Joined, unjoined, add_reach}
+use Rattle.logic.specs.Facts.{Facts, Joined, unjoined}
+use Rattle.logic.specs.Rules.{branch}
 use Rattle.facts.specs.Path.{path_of, HasLink}
-use Rattle.facts.proofs.Path.{link_few}
 use Rattle.rules.specs.Answers.{kind_of}
-use Rattle.alternatives.specs.Answers.{fact_of, InRange}
-use Rattle.alternatives.proofs.Steps.{alternative_record}
-use Rattle.branch.proofs.Steps.{alone_fits, join_alone, made_equal, made_reaches}
+use Rattle.alternatives.specs.Alternatives.{alternative_at}
 use Rattle.branch.proofs.branch.Goals as goal
 
-pub alternative-requires : goal.alternative-requires
-alternative-requires c = let p = c.requires in (p.0, p.1.0, link_few c.args.s.now c.args.m.link.0 p.1, p.2)
-
-pub join-requires : goal.join-requires
-join-requires c =
-    let h = subst InRange c.in-Equal.is c.alternative.ensures.1 in
-    (c.requires.0, h.0, h.1, alone_fits _ _ _ (path_of c.args.s.now) _ c.of-made.ensures c.requires.0)
-
-pub add_reach-requires : goal.add_reach-requires
+pub make-requires : goal.make-requires
 unfolding unjoined
-add_reach-requires c =
-    let h = subst InRange c.in-Reaches.is c.alternative.ensures.1 in
-    (subst (λ (s : Facts). HasLink s c.args.m.link.0) (sym (ap (λ (j : Joined). j.facts) c.of-made.ensures)) c.requires.1, h.0, h.1)
+make-requires c =
+    let p = c.requires in
+    (p.0, subst (λ (s : Facts). HasLink s c.args.m.link.0) (sym (ap (λ (j : Joined). j.facts) c.of-made.ensures)) p.1, p.2)
 
-pub returns-in-Equal : goal.returns-in-Equal
-returns-in-Equal c =
-    let m = c.args.m in
-    let s = c.args.s.now in
-    made_equal m.link.0 _ (path_of s) _ _
-    (c.alternative.ensures.0 ∙ alternative_record m.link.0 _ s c.requires.1 (kind_of m.rule) m.x.0 m.y.0 m.z.0 c.args.i) _ _ _
-    (ap (fact_of m.link.0) c.in-Equal.is) (c.join.ensures ∙ join_alone _ _ _ (path_of s) _ c.of-made.ensures)
-
-pub returns-in-Reaches : goal.returns-in-Reaches
+pub returns : goal.returns
 unfolding unjoined
-returns-in-Reaches c =
-    let m = c.args.m in
-    let s = c.args.s.now in
-    made_reaches m.link.0 _ (path_of s) _ _
-    (c.alternative.ensures.0 ∙ alternative_record m.link.0 _ s c.requires.1 (kind_of m.rule) m.x.0 m.y.0 m.z.0 c.args.i) _ _ _
-    (ap (fact_of m.link.0) c.in-Reaches.is)
-    (λ i. record { pairs = (c.of-made.ensures i).pairs; facts = (c.add_reach.ensures ∙ ap (λ (j : Joined). add_reach m.link.0 c.in-Reaches.a.0 c.in-Reaches.b.0 j.facts) c.of-made.ensures) i })
+returns c =
+    let a = c.args in
+    c.make.ensures
+    ∙ ap (λ (s : Facts). branch a.n s (alternative_at a.m.link.0 a.n (s.graph a.m.link.0) (kind_of a.m.rule) a.m.x.0 a.m.y.0 a.m.z.0 a.i)) (ap (λ (j : Joined). j.facts) c.of-made.ensures)
