@@ -1,12 +1,13 @@
 // The call for queries with between literals: the first small heap that satisfies, in a report, or none.
 #![tactic(auto)]
 
-ghost use Rattle.std.specs.Prelude.{◌≡◌, List, map, ℕ, ◌≤◌, length, get_or, Ok};
+ghost use Rattle.std.specs.Prelude.{◌≡◌, List, map, ℕ, ◌+◌, ◌*◌, ◌≤◌, length, get_or, Ok};
 ghost use Rattle.refusals.specs.Numbers.{number_of};
 ghost use Rattle.logic.specs.Facts.{terms};
+ghost use Rattle.rows.specs.Square.{square};
 ghost use Rattle.logic.specs.Calls.{padded, blank, refused};
-ghost use Rattle.report.specs.Bytes.{sections};
-ghost use Rattle.between_search.specs.Search.{report_of};
+ghost use Rattle.report.specs.Bytes.{field_held, literals_at, FieldsIn, sections};
+ghost use Rattle.between_search.specs.Search.{entry, report_of};
 ghost use Rattle.between_search.specs.Calls.{searched, between_call};
 ghost use Rattle.between_seek.specs.Answers.{query_in};
 ghost use Rattle.between_call.specs.Promise.{Does, Reportable, Asked};
@@ -23,6 +24,24 @@ const MOST_TERMS: usize = 5;
 pub enum BetweenAnswer {
     Heap,
     Nothing,
+}
+
+// The fields that plain data literals set: field j at node v is bit j of row v.
+fn mark_fields(query: &[u8], at: usize, count: usize, nodes: &[u8; 17]) -> [u32; 17]
+    requires { (at + 3 * count ≤ length query.now) × FieldsIn query.now at count (entry nodes.now) }
+    ensures { (v j : ℕ) → v ≤ 16 → j ≤ 16 → square result v j ≡ field_held (entry nodes.now) (literals_at query.now at count) v j }
+{
+    let mut marks = [0u32; 17];
+    for i in 0..count {
+        if !query::sign(query, at, i) {
+            continue;
+        }
+        let field = query::field(query, at, i);
+        let node = heap_nodes::node_of(nodes, query::right(query, at, i));
+        let v = node.0;
+        marks[v] = marks[v] | rows::only(field);
+    }
+    marks
 }
 
 // "m successors; n nodes, one per term; m data bytes ..; one byte of booleans", which is 0, each section after its count, and zeros past
@@ -52,7 +71,8 @@ fn write_report(buffer: &mut [u8], base: &[u8], l: Layout, heap: &Heap)
     ensures { (between : List ℕ) → buffer.new ≡ padded (length buffer.old) (report_of (query_in base.now between) (record { links = heap.now.links; nodes = heap.now.nodes })) }
 {
     let m = usize::from(heap.links[0]);
-    let fields = report::data_bytes(base, l.field_at, l.field_count, &heap.nodes, m);
+    let marks = mark_fields(base, l.field_at, l.field_count, &heap.nodes);
+    let fields = report::row_bytes(&marks, m);
     write_sections(buffer, m, l.terms, &heap.links, &heap.nodes, &fields);
 }
 

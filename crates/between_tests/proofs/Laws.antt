@@ -86,6 +86,11 @@ module _ {A : Type 0} (g : ℕ → ℕ → A) (d : A) where
     | no n ↦ get_or-set_other table i j a d n ∙ m j (omega arith)
   ]
 
+  -- the entry of row v at w
+  pub made_at : (table : List A) (v w : ℕ) (a : A) → length table ≡ 36 → v ≤ 5 → w ≤ 5 → a ≡ g v w → MadeTo g d table (6 * v + w) → MadeTo g d (set table (6 * v + w) a) (6 * v + (w + 1))
+  made_at table v w a l r c e m j h =
+      made_next table (6 * v + w) a l (omega arith) (e ∙ sym (ap₂ (λ (x y : ℕ). g x y) (row_of v w c) (column_of v w c))) m j (omega arith)
+
   pub made_all : (table : List A) (i : ℕ) → 36 ≤ i → MadeTo g d table i → (v w : ℕ) → v ≤ 5 → w ≤ 5 → get_or table (6 * v + w) d ≡ g v w
   made_all table i l m v w a b = m (6 * v + w) (omega arith) ∙ ap₂ (λ (x y : ℕ). g x y) (row_of v w b) (column_of v w b)
 

@@ -44,8 +44,10 @@ pub fn step_table(links: &[u8; 17]) -> [u8; 36]
     ensures { Stepped result (entry links.now) }
 {
     let mut table = [0u8; 36];
-    for i in 0..36 {
-        table[i] = step_count(links, Node(i / 6), Node(i % 6)) as u8;
+    for v in 0..6 {
+        for w in 0..6 {
+            table[6 * v + w] = step_count(links, Node(v), Node(w)) as u8;
+        }
     }
     table
 }

@@ -16,11 +16,11 @@ pub fn entry_allowed(term: usize, byte: usize) -> bool
     (byte < term) | (byte == 255)
 }
 
-pub fn entry_refused(fault: Fault, term: usize, byte: usize) -> bool
-    ensures { result ≡ meets (entry_role term) (number_of fault) byte }
+pub fn entry_refused(k: usize, term: usize, byte: usize) -> bool
+    ensures { result ≡ meets (entry_role term) k byte }
 {
     let allowed = entry_allowed(term, byte);
-    (fault == Fault::TermByte) & !allowed
+    (5 == k) & !allowed
 }
 
 // "A sign is neither 0 nor 1."

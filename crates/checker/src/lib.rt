@@ -50,7 +50,9 @@ fn check_head(derivation: &[u8], count: usize, pairs: &Pairs, first: usize) -> R
     Ok(at)
 }
 
-// What line `at` is at a path: "each path ends in a true clash .. as soon as a clash stands", and each rule line applies.
+// What line `at` is at a path: "each path ends in a true clash .. as soon as a clash stands", and each rule line applies. Its frame is its own, and is gone
+// when `check_goal` goes a step deeper.
+#[inline(never)]
 fn read_line(
     query: &[u8],
     layout: Layout,

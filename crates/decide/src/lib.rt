@@ -11,6 +11,7 @@ ghost use Rattle.theory.proofs.Calls.Decision.{Known};
 ghost use Rattle.facts.specs.Path.{path_of};
 ghost use Rattle.link_query.specs.Said.{said, Within};
 ghost use Rattle.backjumping.specs.Finds.{Tells};
+ghost use Rattle.decide.specs.Numbers.{strategy_of};
 ghost use Rattle.decide.specs.Tells.{Ends, Finds};
 
 use backjumping::Undecided;
@@ -24,6 +25,21 @@ use walk::Seen;
 pub enum Strategy {
     Backjumping,
     Picking(picking::Strategy),
+}
+
+impl Strategy {
+    // The strategy that a number names, for callers that have a number; every number names one.
+    pub fn numbered(k: usize) -> Strategy
+        ensures { result ≡ strategy_of k }
+    {
+        match k {
+            0 => Strategy::Picking(picking::Strategy::Gains),
+            1 => Strategy::Picking(picking::Strategy::TotalFirst),
+            2 => Strategy::Picking(picking::Strategy::Probing),
+            4 => Strategy::Backjumping,
+            _ => Strategy::Picking(picking::Strategy::ProbingGains),
+        }
+    }
 }
 
 // The strategies in their turn: the one with backjumping, the two that probe, the others.

@@ -52,7 +52,7 @@ fn term_fault(fault: Fault, t: Term, query: &[u8], at: usize) -> Option<usize>
     requires { at + 1 ≤ length query.now }
     ensures { found_of result ≡ fault_at (entry_role t.0) (number_of fault) query.now at }
 {
-    if byte_tests::entry_refused(fault, t.0, byte_at(query, at)) {
+    if byte_tests::entry_refused(fault.number(), t.0, byte_at(query, at)) {
         return Some(at);
     }
     None

@@ -2,19 +2,19 @@
 use Prim.Native.Nat.{ℕ, ◌≤◌}
 use native.Mathlib.Omega.{arith}
 use mathlib.Core.Path.{◌≡◌, sym, ap, ap₂, ◌∙◌, subst}
-use mathlib.Core.Bool.{true, false, cond}
+use mathlib.Core.Bool.{Bool, true, false, cond}
 use mathlib.Core.List.{List}
 use lib.Dec.{eqb}
 use Rattle.logic.specs.Search.{◌and◌, ◌or◌}
 use Rattle.logic.specs.Query.{Literal}
-use Rattle.logic.specs.Facts.{Facts, Joined, unjoined, and_then, join, add_reach}
+use Rattle.logic.specs.Facts.{Facts, Joined, unjoined, and_then, join, add_reach, reach_each}
 use Rattle.theory.proofs.Basics.Compare.{cond-true, cond-false}
 use Rattle.link_rows.specs.Cube.{cube}
 use Rattle.facts.specs.Path.{path_of}
 use Rattle.facts.specs.declared.Facts as code
 use Rattle.facts.proofs.Path.{add_reach_rows}
 use Rattle.joins.proofs.Joins.{and_then_at, and_then-unjoined}
-use Rattle.plain_literals.specs.Taken.{join_one, same, Bounded}
+use Rattle.plain_literals.specs.Taken.{path_by, join_one, same, Bounded}
 use Rattle.plain_literals.proofs.Each.{reach_one}
 
 -- a number that is read for a term is what the term became
@@ -50,6 +50,13 @@ module _ (s t : code.Facts) (e : Kept s t) where
   pub kept_links : (path_of t).links ≡ (path_of s).links
   unfolding path_of
   kept_links = ap (λ (x : code.Facts). cond x.single 1 3) e
+
+  -- what is told of the arrays is told of the path
+  pub kept_added :
+      (ls : List Literal) (links : ℕ) → ((single : Bool) → cond single 1 3 ≡ links → path_by single t ≡ reach_each ls (path_by single s)) →
+      (path_of s).links ≡ links → path_of t ≡ reach_each ls (path_of s)
+  unfolding path_of
+  kept_added ls links told h = ap (λ (single : Bool). path_by single t) (ap (λ (x : code.Facts). x.single) e) ∙ told s.single h
 
 -- a negated literal is passed over
 module _ (l : Literal) (p : l.plain ≡ false) where

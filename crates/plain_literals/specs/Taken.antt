@@ -1,8 +1,14 @@
 -- One literal taken into a path, and the terms that the code's arrays have room for.
-use Rattle.std.specs.Prelude.{ℕ, ◌≤◌, ◌<◌, true, cond, List}
+use Rattle.std.specs.Prelude.{ℕ, ◌≤◌, ◌<◌, Bool, true, cond, List}
 use Rattle.logic.specs.Query.{Literal, literal}
 use Rattle.logic.specs.Facts.{Facts, Joined, unjoined, join}
+use Rattle.facts.specs.Path.{path_of}
+use Rattle.facts.specs.declared.Facts as code
 use Rattle.query.specs.LaysOut.{literal_in}
+
+-- the path that these arrays hold, of a single link or of three
+abbrev pub path_by : Bool → code.Facts → Facts
+path_by single s = path_of (record s { single = single })
 
 -- a plain equality is joined, read through `rep`
 unfoldable pub join_one : ℕ → Literal → Facts → Joined

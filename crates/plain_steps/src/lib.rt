@@ -2,7 +2,7 @@
 // path, and where the walk ends.
 #![tactic(auto)]
 
-ghost use Rattle.std.specs.Prelude.{◌≡◌, true, ◌≤◌, length, is_some};
+ghost use Rattle.std.specs.Prelude.{◌≡◌, true, ◌≤◌, length, is_some, IfSome};
 ghost use Rattle.logic.specs.Walk.{look, order_of};
 ghost use Rattle.logic.specs.Query.{term_count, is_order};
 ghost use Rattle.logic.specs.Steps.{AtMost};
@@ -19,9 +19,10 @@ use kinds::Kind;
 use query::Layout;
 use walk::Seen;
 
-// One step less, where they are limited.
+// One step less, where they are limited: a budget does not grow.
 fn spend(budget: &mut Option<usize>)
-    ensures { is_some budget.new ≡ is_some budget.old }
+    ensures limited { is_some budget.new ≡ is_some budget.old }
+    ensures spent { IfSome budget.old (λ before. IfSome budget.new (λ left. left ≤ before)) }
 {
     if let Some(steps) = budget {
         *steps = steps.saturating_sub(1);

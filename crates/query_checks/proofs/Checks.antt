@@ -98,6 +98,26 @@ pub five_refused : (bytes : List ℕ) (most excess k place : ℕ) → layout_by 
 unfolding layout_numbers
 five_refused bytes most excess k place e m = layout_refused (five_sections most excess) bytes k place (five_excesses most excess m (first_byte bytes)) (rw one_form e)
 
+-- the same, of a number that stands for the one asked for
+pub five_refused_as : (bytes : List ℕ) (most excess named k place : ℕ) → (Memᴰ excess (2 ∷ 3 ∷ 26 ∷ 4 ∷ []) → named ≡ excess) → layout_by (form_by 1 most named) bytes ≡ faulty k place →
+    Memᴰ excess (2 ∷ 3 ∷ 26 ∷ 4 ∷ []) → (i : Input) → i.query ≡ bytes → refusal_of (form_checks (five_sections most excess)) i ≡ some (refused k place)
+five_refused_as bytes most excess named k place same e m =
+    five_refused bytes most excess k place (subst (λ n. layout_by (form_by 1 most n) bytes ≡ faulty k place) (same m) e) m
+
+-- of these numbers, one that is none of the others is 3
+module _ (k : ℕ) where
+  passed : {n : ℕ} {ns : List ℕ} → (k ≡ n → ⊥) → (Memᴰ k ns → 3 ≡ k) → Memᴰ k (n ∷ ns) → 3 ≡ k
+  passed other rest m = ⊎_elim (λ e. absurd (other e)) rest (Memᴰ.cases_cons m)
+
+  pub is_three : (k ≡ 2 → ⊥) → (k ≡ 4 → ⊥) → (k ≡ 26 → ⊥) → Memᴰ k (2 ∷ 3 ∷ 26 ∷ 4 ∷ []) → 3 ≡ k
+  is_three two four retired = passed two three
+    where
+      last : Memᴰ k (26 ∷ 4 ∷ []) → 3 ≡ k
+      last = passed retired (passed four (λ m. absurd (Memᴰ.not-nil m)))
+
+      three : Memᴰ k (3 ∷ 26 ∷ 4 ∷ []) → 3 ≡ k
+      three m = ⊎_elim (λ e. sym e) last (Memᴰ.cases_cons m)
+
 -- The sections
 
 nothing_left : (bytes : List ℕ) → layout [] (length bytes) (drop (length bytes) bytes) ≡ parts []
@@ -195,6 +215,14 @@ pub five_checked : (r : Result FullLayout Refusal) (l : FullLayout) (bytes : Lis
 five_checked (Err e) l bytes most excess s few one h = λ m. rw (one_form, ← one) h
 five_checked (Ok l') l bytes most excess s few one h =
     (rw (one_form, ← one) h.0, subst (λ (m : FullLayout). FullLaysOut m bytes most excess) (sym h.1) (lays_out l bytes s most excess few one))
+
+-- what is said of the number of a fault, said of the number itself
+module _ (bytes : List ℕ) (most : ℕ) {number k : ℕ} (same : number ≡ k) where
+  pub asked_err : (e : Refusal) → FullCheckedAs (Err e) bytes most number → FullCheckedAs (Err e) bytes most k
+  asked_err e h = subst (λ n. FullCheckedAs (Err e) bytes most n) same h
+
+  pub asked_ok : (l : FullLayout) → FullCheckedAs (Ok l) bytes most number → FullCheckedAs (Ok l) bytes most k
+  asked_ok l h = subst (λ n. FullCheckedAs (Ok l) bytes most n) same h
 
 -- an accepted query passes every check
 pub checked-accepts : (l : Layout) (bytes : List ℕ) → CheckedAs (Ok l) bytes → accepts bytes ≡ true

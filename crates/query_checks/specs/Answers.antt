@@ -10,6 +10,7 @@ use Rattle.query.specs.Forms.{form_by}
 use Rattle.query.specs.LaysOut.{LaysOut, FullLaysOut}
 use Rattle.query.specs.declared.FullLayout.{FullLayout}
 use Rattle.query.specs.declared.Layout.{Layout}
+use Rattle.refusals.specs.declared.Fault.{Fault}
 use Rattle.refusals.specs.declared.Refusal.{Refusal}
 use Rattle.refusals.specs.Numbers.{number_of}
 
@@ -29,6 +30,10 @@ ByteAnswer (Ok m) l form bytes = ((i : Input) → i.query ≡ bytes → refusal_
 -- the same, however many booleans pass
 abbrev pub BytesChecked : Result FullLayout Refusal → FullLayout → List ℕ → Type 0
 BytesChecked r l bytes = (most excess : ℕ) → l.boolean_count ≤ most → ByteAnswer r l (form_by l.layout.links most excess) bytes
+
+-- a fault has the number that too many booleans are refused with, where that is one of the checks'
+abbrev pub StandsFor : Fault → ℕ → Type 0
+StandsFor f k = Memᴰ k (2 ∷ 3 ∷ 26 ∷ 4 ∷ []) → number_of f ≡ k
 
 -- The checks of a form with these query bytes, whatever else a call is given. They answer every refusal that the walk from the front
 -- meets where that of an excess count is one of theirs.

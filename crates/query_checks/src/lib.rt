@@ -3,7 +3,7 @@
 
 ghost use Rattle.refusals.specs.Numbers.{number_of};
 ghost use Rattle.query.specs.Sections.{Sections};
-ghost use Rattle.query_checks.specs.Answers.{FoundIn, PassesIn, BytesChecked, FullCheckedAs, CheckedAs};
+ghost use Rattle.query_checks.specs.Answers.{FoundIn, PassesIn, BytesChecked, StandsFor, FullCheckedAs, CheckedAs};
 
 use query::{FullLayout, Layout};
 use refusals::{Fault, Refusal};
@@ -106,12 +106,28 @@ pub fn check_bytes(query: &[u8], full: FullLayout) -> Result<FullLayout, Refusal
     Ok(full)
 }
 
+// What more booleans than pass are refused with, by its number. Of any other number than these four the refusal is left free.
+fn excess_fault(number: usize) -> Fault
+    ensures { StandsFor result number }
+{
+    if number == 2 {
+        return Fault::QueryEnds;
+    }
+    if number == 4 {
+        return Fault::TrailingBytes;
+    }
+    if number == 26 {
+        return Fault::BooleanCount;
+    }
+    Fault::CountAboveLimit
+}
+
 // "Refusals, in checking order", of a query in the form where `most` booleans pass and more are refused `excess`: 2 to 8, and `excess`
 // before 4.
-pub fn check_with(query: &[u8], most: usize, excess: Fault) -> Result<FullLayout, Refusal>
-    ensures { FullCheckedAs result query.now most (number_of excess) }
+pub fn check_with(query: &[u8], most: usize, excess: usize) -> Result<FullLayout, Refusal>
+    ensures { FullCheckedAs result query.now most excess }
 {
-    let full = query::lay_out(query, 1, most, excess)?;
+    let full = query::lay_out(query, 1, most, excess_fault(excess))?;
     check_bytes(query, full)
 }
 
@@ -119,6 +135,6 @@ pub fn check_with(query: &[u8], most: usize, excess: Fault) -> Result<FullLayout
 pub fn check(query: &[u8]) -> Result<Layout, Refusal>
     ensures { CheckedAs result query.now }
 {
-    let full = check_with(query, 0, Fault::BooleanCount)?;
+    let full = check_with(query, 0, Fault::BooleanCount.number())?;
     Ok(full.layout)
 }

@@ -131,6 +131,6 @@ pub fn rewrite(query: &[u8], out: &mut [u8]) -> Result<usize, Refusal>
     ensures { Does (rewrite_call query.now (length out.old)) result out.new }
 {
     lent::clear(out);
-    let full = query_checks::check_with(query, 60, Fault::CountAboveLimit)?;
+    let full = query_checks::check_with(query, 60, Fault::CountAboveLimit.number())?;
     rewrite_checked(query, full, out)
 }

@@ -15,14 +15,17 @@ use Rattle.logic.specs.Walk.{order_of}
 use Rattle.theory.proofs.Basics.Search.{first_of_empty, first_of-append, first_of_alike, from-mem}
 use Rattle.theory.proofs.Paths.Ranged.{InRange}
 use Rattle.theory.proofs.Calls.OneLink.{first_of-one}
+use Rattle.rows.specs.Bits.{bit}
 use Rattle.rows.specs.Square.{square}
 use Rattle.link_rows.specs.Cube.{cube}
 use Rattle.facts.specs.Path.{graph_of, graph_in, path_as}
 use Rattle.facts.proofs.Path.{graph_at}
 use Rattle.rules.specs.Tests.{pair_test, third_test, is_not_cycle}
 use Rattle.rules.specs.Allowed.{allowed}
+use Rattle.rules.specs.declared.View.{View}
 use Rattle.rules.proofs.Halves.{halves, allowed-any, applies-allowed, rows_are}
 use Rattle.rule_choice.specs.Smallest.{in_third, in_second, in_first, move_at, tried_at, tried_by}
+use Rattle.rule_choice.specs.Answers.{tried_in}
 
 -- Rows of triples
 
@@ -142,6 +145,38 @@ pub own_tried : (link reach l r : List ℕ) (i : ℕ) → square l ≡ cube link
     tried_at i n alive (graph_of l r) k ≡ tried_at i n alive (graph_in link reach i) k
 unfolding graph_in
 own_tried link reach l r i e f n alive k = ap (λ (g : Graph). tried_at i n alive g k) (rows_are l r (graph_in link reach i) e f)
+
+-- The first of two answers.
+module _ {A : Type 0} (o o' : Option A) where
+  pub or_else_here : {a : A} → o ≡ some a → or_else o o' ≡ some a
+  unfolding or_else
+  or_else_here e = rw e
+
+  pub or_else_next : o ≡ none → or_else o o' ≡ o'
+  unfolding or_else
+  or_else_next e = rw e
+
+-- The rows of each of three links are read, and the terms that are not replaced.
+module _ (n alive : ℕ) (link reach : List ℕ) where
+  abbrev pub Reads : ℕ → View → Type 0
+  Reads i v = (v.n ≡ n) × (v.alive ≡ alive) × (square v.link ≡ cube link i) × (square v.reach ≡ cube reach i)
+
+  read_tried : (i : ℕ) (v : View) → Reads i v → (k : ℕ) → tried_in i v k ≡ tried_at i n (bit alive) (graph_in link reach i) k
+  read_tried i v r k = rw (r.0, r.1) (own_tried link reach v.link v.reach i r.2 r.3 n (bit alive) k)
+
+  or_none : (o : Option Move) → or_else o none ≡ o
+  unfolding or_else
+  or_none none = refl
+  or_none (some m) = refl
+
+  -- what they find in turn is what the rule finds
+  pub three_tried : (a b c : View) → Reads 1 a → Reads 2 b → Reads 3 c → (k : ℕ) →
+      or_else (tried_in 1 a k) (or_else (tried_in 2 b k) (tried_in 3 c k)) ≡ tried_by n (bit alive) (graph_in link reach) k
+  unfolding tried_by first_of link_numbers from
+  three_tried a b c f g h k =
+      rw (read_tried 1 a f k, read_tried 2 b g k, read_tried 3 c h k)
+      (ap (λ (o : Option Move). or_else (tried_at 1 n (bit alive) (graph_in link reach 1) k) (or_else (tried_at 2 n (bit alive) (graph_in link reach 2) k) o))
+      (sym (or_none (tried_at 3 n (bit alive) (graph_in link reach 3) k))))
 
 -- the choice at the path that arrays hold, of a single link or of three
 module _ (n : ℕ) (single : Bool) (rep link reach order : List ℕ) (alive : ℕ → Bool) (e : alive ≡ live n (path_as single rep link reach)) where

@@ -9,9 +9,9 @@ ghost use Rattle.rows.specs.Bits.{bit};
 ghost use Rattle.rows.specs.Square.{square, Turned};
 ghost use Rattle.link_rows.specs.Cube.{cube};
 ghost use Rattle.rules.specs.Tests.{pair_test, is_not_cycle, two_way, looks_back};
-ghost use Rattle.rule_choice.specs.Answers.{place_of};
+ghost use Rattle.rule_choice.specs.Answers.{place_of, tried_in};
 ghost use Rattle.rule_choice.specs.Smallest.{in_third, in_second, in_first, tried_at, tried_by};
-ghost use Rattle.logic.specs.Search.{first_of};
+ghost use Rattle.logic.specs.Search.{or_else, first_of};
 ghost use Rattle.logic.specs.Rules.{CYCLE, TRANS2, choose};
 ghost use Rattle.logic.specs.Walk.{order_of};
 
@@ -183,35 +183,47 @@ fn choose_by(view: &mut View, k: Link, order: &[u8]) -> Option<Move>
 }
 
 // The rule that has this number, by link i, with reachability turned round where the rule reads it so.
-fn tried_at(s: &Facts, i: Link, k: u8, alive: u32, n: usize) -> Option<Move>
-    requires { (n ≤ 16) × (0 < i.0) × (i.0 ≤ 3) }
-    ensures { choice_of result ≡ tried_at i.0 n (bit alive) (graph_in s.now.link s.now.reach i.0) k }
+fn tried_at(view: &View, i: Link, k: u8) -> Option<Move>
+    requires { view.now.n ≤ 16 }
+    ensures { choice_of result ≡ tried_in i.0 view.now k }
 {
-    let mut view = view_by(s, i, alive, n);
-    view.back = turned_once(&view.reach, looks_back(k), view.back);
-    tried(&view, i, k)
-}
-
-// "within a rule link 1 is tried first" (02, R-11)
-fn tried_by(s: &Facts, k: u8, alive: u32, n: usize) -> Option<Move>
-    requires { n ≤ 16 }
-    ensures { choice_of result ≡ tried_by n (bit alive) (graph_in s.now.link s.now.reach) k }
-{
-    for i in 1..4 {
-        if let Some(found) = tried_at(s, Link(i), k, alive, n) {
-            return Some(found);
-        }
+    if !looks_back(k) {
+        return tried(view, i, k);
     }
-    None
+    let turned = View {
+        n: view.n,
+        alive: view.alive,
+        link: view.link,
+        reach: view.reach,
+        back: rows::turned(&view.reach),
+    };
+    tried(&turned, i, k)
 }
 
-// The first applicable rule of the order list, by any of three links.
+// "within a rule link 1 is tried first" (02, R-11): what is read by each link is lent.
+fn tried_by(first: &View, second: &View, third: &View, k: u8) -> Option<Move>
+    requires { (first.now.n ≤ 16) × (second.now.n ≤ 16) × (third.now.n ≤ 16) }
+    ensures { choice_of result ≡ or_else (tried_in 1 first.now k) (or_else (tried_in 2 second.now k) (tried_in 3 third.now k)) }
+{
+    if let Some(found) = tried_at(first, Link(1), k) {
+        return Some(found);
+    }
+    if let Some(found) = tried_at(second, Link(2), k) {
+        return Some(found);
+    }
+    tried_at(third, Link(3), k)
+}
+
+// The first applicable rule of the order list, by any of three links. What is read by each is made once, for all rules.
 fn choose_any(order: &[u8], s: &Facts, alive: u32, n: usize) -> Option<Move>
     requires { n ≤ 16 }
     ensures { choice_of result ≡ first_of (tried_by n (bit alive) (graph_in s.now.link s.now.reach)) order.now }
 {
+    let first = view_by(s, Link(1), alive, n);
+    let second = view_by(s, Link(2), alive, n);
+    let third = view_by(s, Link(3), alive, n);
     for number in order {
-        if let Some(found) = tried_by(s, *number, alive, n) {
+        if let Some(found) = tried_by(&first, &second, &third, *number) {
             return Some(found);
         }
     }

@@ -83,7 +83,7 @@ returns-then-not-is_refuted-clause-walks t c =
     let u = path_of c.take.new.s in
     let w = c.plain-kind.result in
     let v = path_of c.plain-kind.new.s in
-    let told = subst (λ (b : Bool). WalksTo q a.order.now (a.left - 1) u b w v) (o.invariant.2 ∙ c.spend.ensures) c.plain-kind.ensures.walks in
+    let told = subst (λ (b : Bool). WalksTo q a.order.now (a.left - 1) u b w v) (o.invariant.2 ∙ c.spend.ensures.limited) c.plain-kind.ensures.walks in
     front_branch {q = q} a.order.now p.1 p.2 a.left (path_of a.s.now) (path_of c.close_ahead.new.s) p.3 p.4 a.layout.terms
     (sym (terms-said a.layout a.query.now p.0)) c.close_ahead.ensures m.link.0 (kind_of m.rule) m.x.0 m.y.0 m.z.0 (sym c.in-Applying.ensures)
     (path_of o.s) (ap path_of o.invariant.1) o.i here u c.take.ensures
@@ -100,7 +100,7 @@ loop-i-preserved t c =
     let u = path_of c.take.new.s in
     let w = c.plain-kind.result in
     let v = path_of c.plain-kind.new.s in
-    let told = subst (λ (b : Bool). WalksTo q a.order.now (a.left - 1) u b w v) (o.invariant.2 ∙ c.spend.ensures) c.plain-kind.ensures.walks in (
+    let told = subst (λ (b : Bool). WalksTo q a.order.now (a.left - 1) u b w v) (o.invariant.2 ∙ c.spend.ensures.limited) c.plain-kind.ensures.walks in (
       front_struck {q = q} a.order.now p.1 p.2 a.left (path_of a.s.now) (path_of c.close_ahead.new.s) p.3 p.4 a.layout.terms
           (sym (terms-said a.layout a.query.now p.0)) c.close_ahead.ensures m.link.0 (kind_of m.rule) m.x.0 m.y.0 m.z.0 (sym c.in-Applying.ensures)
           (path_of o.s) (ap path_of o.invariant.1) o.i here u c.take.ensures

@@ -5,6 +5,7 @@ use Rattle.facts.specs.Path.{path_of}
 use Rattle.joins.specs.Pairs.{joined_of, Fits}
 use Rattle.joins.proofs.Joins.{fits_left}
 use Rattle.plain_literals.proofs.Read.{equal_terms_in}
+use Rattle.plain_literals.proofs.Taken.{kept_added}
 use Rattle.start.proofs.Laid.{links, links_laid, links_bounded, joins_made, start_laid, joins-links, joins_fit, nil_fits, equalities_fit}
 use Rattle.start.proofs.start.Goals as goal
 use Rattle.start.proofs.start.Goals.{After-settle}
@@ -43,4 +44,4 @@ pub returns : goal.returns
 returns c =
     let p = c.requires in
     let e = joins_made p.0 _ _ _ (linked (goal.at.returns c).After-settle) c.join_nil.ensures.result_after c.join_each.ensures.result_after in
-    start_laid p.0 (joined_of c.join_each.new.joined) (path_of c.reach_each.new.facts) e (c.reach_each.ensures.added (ap (λ (j : Joined). j.facts.links) e ∙ joins-links p.0 p.1))
+    start_laid p.0 (joined_of c.join_each.new.joined) (path_of c.reach_each.new.facts) e (kept_added _ _ c.reach_each.ensures.kept _ _ c.reach_each.ensures.added (ap (λ (j : Joined). j.facts.links) e ∙ joins-links p.0 p.1))
