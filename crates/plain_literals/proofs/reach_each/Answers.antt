@@ -47,14 +47,15 @@ loop-i-preserved c =
             ap (λ (x : Facts). length x.reach) w.facts-is ∙ w.add.ensures.1,
             kept_more c.args.facts.now l.facts c.if-reach_sign.facts _ l.invariant.1 w.facts-is,
             λ single h. subst (Left reach_each _ _ _ _ (l.i + 1))
-                (sym (ap (path_by single) w.facts-is ∙ reach-plain (record l.facts { single = single }) literal _ _ left right (sym c.reach_sign.ensures ∙ w.if-reach_sign.true) _ w.reach_link-by.ensures
-                (linked_in p.0 p.1 l.i c.loop-i-test.true _ w.reach_link-by.ensures _ h) _ w.add.ensures.0)) (next single h),
+                (sym (ap (path_by single) w.facts-is ∙ reach-plain (record l.facts { single = single }) literal _ _ left right (sym c.reach_sign.ensures ∙ w.if-reach_sign.true) _
+                w.reach_link-by.ensures (linked_in p.0 p.1 l.i c.loop-i-test.true _ w.reach_link-by.ensures _ h) _ w.add.ensures.0)) (next single h),
           )
       | else-reach_sign w ↦ (
         ap (λ (x : Facts). length x.reach) w.facts-is ∙ l.invariant.0,
         rw w.facts-is l.invariant.1,
         λ single h. subst (Left reach_each _ _ _ _ (l.i + 1))
-            (sym (ap (path_by single) w.facts-is ∙ reach_negated literal (sym c.reach_sign.ensures ∙ w.if-reach_sign.false) (path_by single l.facts))) (next single h),
+            (sym (ap (path_by single) w.facts-is ∙ reach_negated literal (sym c.reach_sign.ensures ∙ w.if-reach_sign.false) (path_by single l.facts)))
+            (next single h),
       )
     ]
 

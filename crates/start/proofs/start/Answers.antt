@@ -44,4 +44,5 @@ pub returns : goal.returns
 returns c =
     let p = c.requires in
     let e = joins_made p.0 _ _ _ (linked (goal.at.returns c).After-settle) c.join_nil.ensures.result_after c.join_each.ensures.result_after in
-    start_laid p.0 (joined_of c.join_each.new.joined) (path_of c.reach_each.new.facts) e (kept_added _ _ c.reach_each.ensures.kept _ _ c.reach_each.ensures.added (ap (λ (j : Joined). j.facts.links) e ∙ joins-links p.0 p.1))
+    start_laid p.0 (joined_of c.join_each.new.joined) (path_of c.reach_each.new.facts) e
+    (kept_added _ _ c.reach_each.ensures.kept _ _ c.reach_each.ensures.added (ap (λ (j : Joined). j.facts.links) e ∙ joins-links p.0 p.1))
